@@ -1,0 +1,17 @@
+-- The answer to a whole question: a value, or the number of the first fault met.
+use Prim.Native.Nat.{ℕ}
+use mathlib.Core.Bool.{Bool, true, false}
+
+pub data Answer (A : Type 0) : Type 0 where
+  accepted : A → Answer A
+  refused : ℕ → Answer A
+
+-- the next question, where this one was not refused
+unfoldable pub given : {A B : Type 0} → Answer A → (A → Answer B) → Answer B
+given (accepted a) next = next a
+given (refused n) next = refused n
+
+-- one of two, by a test
+unfoldable pub pick : {A : Type 0} → Bool → A → A → A
+pick true a b = a
+pick false a b = b

@@ -1,0 +1,33 @@
+-- Ranges and I/O requests: which are allowed, and the last byte of each.
+use Prim.Native.Nat.{ℕ, _+_, _-_, _^_}
+use lib.Dec.{leb, eqb}
+use Rattle.base.specs.Answer.{Answer, accepted, refused, pick}
+use Rattle.base.specs.Refusals.{numberOf}
+use Rattle.base.specs.declared.range.Last.{Last}
+use Rattle.base.specs.declared.range.Last.the-variants.{At, Refused}
+
+-- the last byte that a file offset can name
+abbrev pub lastByte : ℕ
+lastByte = 2 ^ 64 - 1
+
+-- what offset and length may come to together
+abbrev pub largestSum : ℕ
+largestSum = 2 ^ 64 - 1
+
+-- the length that means "through the last byte"
+abbrev pub toTheEnd : ℕ
+toTheEnd = 2 ^ 64 - 1
+
+-- "An I/O request has no such special length: length above 0 and offset + length at most 2^64 - 1, always."
+unfoldable pub requestLast : ℕ → ℕ → Answer ℕ
+requestLast offset len =
+    pick (leb 1 len) (pick (leb (offset + len) largestSum) (accepted (offset + len - 1)) (refused 5)) (refused 5)
+
+-- "A range has a length above 0. A length of 2^64 - 1 means through byte 2^64 - 1, from any offset. Otherwise offset + length must be at
+-- most 2^64 - 1."
+unfoldable pub rangeLast : ℕ → ℕ → Answer ℕ
+rangeLast offset len = pick (eqb len toTheEnd) (accepted lastByte) (requestLast offset len)
+
+abbrev pub answerOfLast : Last → Answer ℕ
+answerOfLast (At last) = accepted last
+answerOfLast (Refused e) = refused (numberOf e)

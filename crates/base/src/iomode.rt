@@ -1,0 +1,38 @@
+// Iomodes by their wire numbers.
+use crate::refusal::Refusal;
+ghost use mathlib.Core.Path.{_≡_};
+ghost use Rattle.base.specs.Iomodes.{answerOfIomode, iomodeOf, grantIomodeOf};
+
+pub enum Iomode {
+    Read,
+    ReadWrite,
+    Any,
+}
+
+pub enum ReadIomode {
+    Value(Iomode),
+    Refused(Refusal),
+}
+
+// What a return and a recall may name.
+pub fn iomode_of(n: u32) -> ReadIomode
+    ensures { λ r. ⌜ answerOfIomode r ≡ iomodeOf n ⌝ }
+{
+    match n {
+        1 => ReadIomode::Value(Iomode::Read),
+        2 => ReadIomode::Value(Iomode::ReadWrite),
+        3 => ReadIomode::Value(Iomode::Any),
+        _ => ReadIomode::Refused(Refusal::IomodeNotAllowed),
+    }
+}
+
+// What a grant may name.
+pub fn grant_iomode(n: u32) -> ReadIomode
+    ensures { λ r. ⌜ answerOfIomode r ≡ grantIomodeOf n ⌝ }
+{
+    match n {
+        1 => ReadIomode::Value(Iomode::Read),
+        2 => ReadIomode::Value(Iomode::ReadWrite),
+        _ => ReadIomode::Refused(Refusal::IomodeNotAllowed),
+    }
+}

@@ -1,0 +1,23 @@
+// What every layer shares: the refusals with their numbers, iomodes, the three kinds of number, and the two range rules.
+mod iomode;
+mod range;
+mod refusal;
+
+pub use iomode::Iomode;
+pub use iomode::ReadIomode;
+pub use iomode::grant_iomode;
+pub use iomode::iomode_of;
+pub use range::Last;
+pub use range::range_last;
+pub use range::request_last;
+pub use refusal::Refusal;
+pub use refusal::number;
+
+// A mirror's place among the mirrors of a layout.
+pub struct MirrorNumber(pub u32);
+
+// A data server's place among the servers of a mirror.
+pub struct StripeNumber(pub u32);
+
+// A slot's place in the body store.
+pub struct SlotNumber(pub u32);

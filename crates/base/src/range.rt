@@ -1,0 +1,40 @@
+// The range rule and the I/O request rule, at full 64 bits: no sum is formed that could wrap.
+use crate::refusal::Refusal;
+ghost use mathlib.Core.Path.{_≡_};
+ghost use Rattle.base.specs.Ranges.{answerOfLast, rangeLast, requestLast};
+
+// The last byte of a range or an I/O request.
+pub enum Last {
+    At(u64),
+    Refused(Refusal),
+}
+
+// The last byte that a file offset can name.
+const LAST_BYTE: u64 = 18446744073709551615;
+
+// What offset and length may come to together.
+const LARGEST_SUM: u64 = 18446744073709551615;
+
+// The length that means "to the end of the file".
+const TO_THE_END: u64 = 18446744073709551615;
+
+pub fn range_last(offset: u64, length: u64) -> Last
+    ensures { λ r. ⌜ answerOfLast r ≡ rangeLast offset length ⌝ }
+{
+    if length == TO_THE_END {
+        return Last::At(LAST_BYTE);
+    }
+    request_last(offset, length)
+}
+
+pub fn request_last(offset: u64, length: u64) -> Last
+    ensures { λ r. ⌜ answerOfLast r ≡ requestLast offset length ⌝ }
+{
+    if length == 0 {
+        return Last::Refused(Refusal::RangeInvalid);
+    }
+    if LARGEST_SUM - length < offset {
+        return Last::Refused(Refusal::RangeInvalid);
+    }
+    Last::At(offset + (length - 1))
+}

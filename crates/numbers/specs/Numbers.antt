@@ -1,0 +1,48 @@
+-- Numbers as bytes, for every width, in both byte orders; runs of bytes compared, and stored into a buffer.
+use Prim.Native.Nat.{ℕ, zero, suc, _+_, _*_, _/_, _%_}
+use mathlib.Core.List.{List, [], _∷_, _++_}
+use lib.ListN.{length, take, drop}
+use lib.Seq.{sets}
+use mathlib.Core.Bool.{Bool, true, false, _&&_}
+use lib.Dec.{leb, eqb}
+use Rattle.base.specs.Answer.{pick}
+
+-- the k bytes from a place
+abbrev pub bytesFrom : ℕ → List ℕ → ℕ → List ℕ
+bytesFrom k s at = take k (drop at s)
+
+-- v, and the bytes behind it as its lower digits
+unfoldable pub beFrom : ℕ → List ℕ → ℕ
+beFrom v [] = v
+beFrom v (b ∷ bs) = beFrom (v * 256 + b) bs
+
+-- "All wire numbers are big-endian": the number of the bytes, the highest first
+unfoldable pub beValue : List ℕ → ℕ
+beValue bs = beFrom 0 bs
+
+-- the k bytes of v, the highest first
+unfoldable pub beBytes : ℕ → ℕ → List ℕ
+beBytes zero v = []
+beBytes (suc k) v = beBytes k (v / 256) ++ (v % 256 ∷ [])
+
+-- the number of the bytes, the lowest first
+unfoldable pub leValue : List ℕ → ℕ
+leValue [] = 0
+leValue (b ∷ bs) = leValue bs * 256 + b
+
+-- the numbers of the k bytes at a place; 0 where the bytes run out
+unfoldable pub beAt : ℕ → List ℕ → ℕ → ℕ
+beAt k s at = pick (leb (at + k) (length s)) (beValue (bytesFrom k s at)) 0
+
+unfoldable pub leAt : ℕ → List ℕ → ℕ → ℕ
+leAt k s at = pick (leb (at + k) (length s)) (leValue (bytesFrom k s at)) 0
+
+-- the buffer l with the bytes bs from a place on; as it was where they do not fit
+unfoldable pub stored : List ℕ → ℕ → List ℕ → List ℕ
+stored l at bs = pick (leb (at + length bs) (length l)) (sets l at bs) l
+
+unfoldable pub sameBytes : List ℕ → List ℕ → Bool
+sameBytes [] [] = true
+sameBytes [] (y ∷ ys) = false
+sameBytes (x ∷ xs) [] = false
+sameBytes (x ∷ xs) (y ∷ ys) = eqb x y && sameBytes xs ys

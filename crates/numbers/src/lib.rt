@@ -1,0 +1,13 @@
+// Numbers and runs of bytes: read off a slice, compared, and stored into a buffer.
+mod compare;
+mod load;
+mod store;
+
+pub use compare::same;
+pub use load::be4;
+pub use load::be8;
+pub use load::le4;
+pub use load::le8;
+pub use store::put_be4;
+pub use store::put_be8;
+pub use store::put_bytes;

@@ -1,0 +1,21 @@
+-- `xdr::number::why_u64` meets its contract.
+use Rattle.xdr.specs.Answers.{whyU64}
+use borrow.Author.Needs.{needs}
+use mathlib.Core.Path.{sym, ap}
+use Rattle.xdr.proofs.number.why_u64.Statement.{statement}
+use Rattle.xdr.proofs.number.why_u64.Tie as tie
+
+enum-known-r : tie.Need-enum-known-r
+enum-known-r c = search needs
+
+enum-told : tie.Need-enum-told
+enum-told c = search needs
+
+returns : tie.Need-returns
+returns c = sym (ap whyU64 (c .before .r .given .1))
+
+returns-2 : tie.Need-returns-2
+returns-2 c = search needs
+
+pub why-u64-spec : {M : Type 1} → statement M
+why-u64-spec = tie.close (tie.spec enum-known-r enum-told returns returns-2)

@@ -1,0 +1,3 @@
+pub mod Res
+pub mod Items
+pub mod Answers

@@ -1,0 +1,25 @@
+-- Items read one after the other: a value with the place after it, or the number of the first fault met.
+use Prim.Native.Nat.{ℕ}
+use mathlib.Core.List.{List}
+use lib.ListN.{length}
+use lib.Dec.{eqb}
+use Rattle.base.specs.Answer.{Answer, accepted, refused, pick}
+
+pub data Res (A : Type 0) : Type 0 where
+  ok : A → ℕ → Res A
+  no : ℕ → Res A
+
+-- "A body is read front to back and the first fault met decides": the next item, where this one was not refused
+unfoldable pub then : {A B : Type 0} → Res A → (A → ℕ → Res B) → Res B
+then (ok a at) next = next a at
+then (no n) next = no n
+
+-- "nothing may follow": what was read of the bytes s is the answer where it ends with them
+unfoldable pub whole : {A : Type 0} → List ℕ → Res A → Answer A
+whole s (ok a at) = pick (eqb at (length s)) (accepted a) (refused 2)
+whole s (no n) = refused n
+
+-- an answer about the bytes before a place, as an item
+unfoldable pub inside : {A : Type 0} → Answer A → ℕ → Res A
+inside (accepted a) at = ok a at
+inside (refused n) at = no n

@@ -1,0 +1,118 @@
+// Booleans, counts, and bytes with their padding.
+use crate::Cursor;
+use crate::Part;
+use crate::number::ReadU32;
+use crate::number::read_u32;
+use crate::number::why_u32;
+use base::Refusal;
+ghost use mathlib.Core.Path.{_≡_};
+ghost use Prim.Native.Nat.{_+_, _≤_};
+ghost use lib.ListN.{length};
+ghost use Rattle.numbers.specs.Numbers.{bytesFrom};
+ghost use Rattle.xdr.specs.Items.{allZero, boolAt, bytesAt, countAt, opaqueAt};
+ghost use Rattle.xdr.specs.Answers.{resBool, resPart, resU32, whyBool, whyPart};
+
+pub enum ReadBool {
+    Value(bool, Cursor),
+    Refused(Refusal),
+}
+
+pub enum ReadPart {
+    Value(Part, Cursor),
+    Refused(Refusal),
+}
+
+pub fn read_bool(s: &[u8], c: Cursor) -> ReadBool
+    ensures { λ r. ⌜ resBool r ≡ boolAt (now (s .entry)) (c .at) ⌝ }
+{
+    let r = read_u32(s, c);
+    let ReadU32::Value(n, d) = r else {
+        return ReadBool::Refused(why_u32(r));
+    };
+    if 1 < n {
+        return ReadBool::Refused(Refusal::BooleanInvalid);
+    }
+    ReadBool::Value(n == 1, d)
+}
+
+// A count or a length, from lo to hi.
+pub fn read_count(s: &[u8], c: Cursor, lo: u32, hi: u32) -> ReadU32
+    ensures { λ r. ⌜ resU32 r ≡ countAt lo hi (now (s .entry)) (c .at) ⌝ }
+{
+    let r = read_u32(s, c);
+    let ReadU32::Value(n, _) = r else {
+        return r;
+    };
+    if n < lo {
+        return ReadU32::Refused(Refusal::OutsideLimit);
+    }
+    if hi < n {
+        return ReadU32::Refused(Refusal::OutsideLimit);
+    }
+    r
+}
+
+fn zeros(s: &[u8], at: usize, n: usize) -> bool
+    requires { ⌜ at + n ≤ length (now s) ⌝ }
+    ensures { λ r. ⌜ r ≡ allZero (bytesFrom n (now (s .entry)) at) ⌝ }
+{
+    let mut i: usize = 0;
+    while i < n {
+        if s[at + i] != 0 {
+            return false;
+        }
+        i += 1;
+    }
+    true
+}
+
+// n bytes and their padding; bytes of a fixed number that is a multiple of 4 have none.
+pub fn read_bytes(s: &[u8], c: Cursor, n: usize) -> ReadPart
+    ensures { λ r. ⌜ resPart r ≡ bytesAt n (now (s .entry)) (c .at) ⌝ }
+{
+    let at = c.at;
+    let pad = (4 - n % 4) % 4;
+    if s.len() < at {
+        return ReadPart::Refused(Refusal::BytesRunOut);
+    }
+    if s.len() - at < n {
+        return ReadPart::Refused(Refusal::BytesRunOut);
+    }
+    let end = at + n;
+    if s.len() - end < pad {
+        return ReadPart::Refused(Refusal::BytesRunOut);
+    }
+    if !zeros(s, end, pad) {
+        return ReadPart::Refused(Refusal::PaddingNotZero);
+    }
+    ReadPart::Value(Part { start: at, len: n }, Cursor { at: end + pad })
+}
+
+// Variable opaque or string data of lo to hi bytes.
+pub fn read_opaque(s: &[u8], c: Cursor, lo: u32, hi: u32) -> ReadPart
+    ensures { λ r. ⌜ resPart r ≡ opaqueAt lo hi (now (s .entry)) (c .at) ⌝ }
+{
+    let r = read_count(s, c, lo, hi);
+    let ReadU32::Value(n, d) = r else {
+        return ReadPart::Refused(why_u32(r));
+    };
+    read_bytes(s, d, n as usize)
+}
+
+pub fn why_bool(r: ReadBool) -> Refusal
+    ensures { λ e. ⌜ e ≡ whyBool r ⌝ }
+{
+    match r {
+        ReadBool::Refused(e) => e,
+        ReadBool::Value(_, _) => Refusal::BytesRunOut,
+    }
+}
+
+pub fn why_part(r: ReadPart) -> Refusal
+    ensures { λ e. ⌜ e ≡ whyPart r ⌝ }
+{
+    match r {
+        ReadPart::Refused(e) => e,
+        ReadPart::Value(_, _) => Refusal::BytesRunOut,
+    }
+}

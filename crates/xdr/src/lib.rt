@@ -1,0 +1,29 @@
+// XDR items, read off a slice at a cursor.
+mod item;
+mod number;
+
+pub use item::ReadBool;
+pub use item::ReadPart;
+pub use item::read_bool;
+pub use item::read_bytes;
+pub use item::read_count;
+pub use item::read_opaque;
+pub use item::why_bool;
+pub use item::why_part;
+pub use number::ReadU32;
+pub use number::ReadU64;
+pub use number::read_u32;
+pub use number::read_u64;
+pub use number::why_u32;
+pub use number::why_u64;
+
+// The place of the next item.
+pub struct Cursor {
+    pub at: usize,
+}
+
+// Where the bytes of an item stand.
+pub struct Part {
+    pub start: usize,
+    pub len: usize,
+}

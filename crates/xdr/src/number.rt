@@ -1,0 +1,60 @@
+// Numbers of 4 and 8 bytes.
+use crate::Cursor;
+use base::Refusal;
+ghost use mathlib.Core.Path.{_≡_};
+ghost use Rattle.xdr.specs.Items.{numAt};
+ghost use Rattle.xdr.specs.Answers.{resU32, resU64, whyU32, whyU64};
+
+pub enum ReadU32 {
+    Value(u32, Cursor),
+    Refused(Refusal),
+}
+
+pub enum ReadU64 {
+    Value(u64, Cursor),
+    Refused(Refusal),
+}
+
+pub fn read_u32(s: &[u8], c: Cursor) -> ReadU32
+    ensures { λ r. ⌜ resU32 r ≡ numAt 4 (now (s .entry)) (c .at) ⌝ }
+{
+    let at = c.at;
+    if s.len() < at {
+        return ReadU32::Refused(Refusal::BytesRunOut);
+    }
+    if s.len() - at < 4 {
+        return ReadU32::Refused(Refusal::BytesRunOut);
+    }
+    ReadU32::Value(numbers::be4(s, at), Cursor { at: at + 4 })
+}
+
+pub fn read_u64(s: &[u8], c: Cursor) -> ReadU64
+    ensures { λ r. ⌜ resU64 r ≡ numAt 8 (now (s .entry)) (c .at) ⌝ }
+{
+    let at = c.at;
+    if s.len() < at {
+        return ReadU64::Refused(Refusal::BytesRunOut);
+    }
+    if s.len() - at < 8 {
+        return ReadU64::Refused(Refusal::BytesRunOut);
+    }
+    ReadU64::Value(numbers::be8(s, at), Cursor { at: at + 8 })
+}
+
+pub fn why_u32(r: ReadU32) -> Refusal
+    ensures { λ e. ⌜ e ≡ whyU32 r ⌝ }
+{
+    match r {
+        ReadU32::Refused(e) => e,
+        ReadU32::Value(_, _) => Refusal::BytesRunOut,
+    }
+}
+
+pub fn why_u64(r: ReadU64) -> Refusal
+    ensures { λ e. ⌜ e ≡ whyU64 r ⌝ }
+{
+    match r {
+        ReadU64::Refused(e) => e,
+        ReadU64::Value(_, _) => Refusal::BytesRunOut,
+    }
+}
