@@ -1,2 +1,4 @@
 pub mod Steps
 pub mod ItemLaws
+pub mod ManyLaws
+pub mod Accepted

@@ -1,6 +1,6 @@
 -- Items read one after the other: a value with the place after it, or the number of the first fault met.
-use Prim.Native.Nat.{ℕ}
-use mathlib.Core.List.{List}
+use Prim.Native.Nat.{ℕ, zero, suc}
+use mathlib.Core.List.{List, [], _∷_}
 use lib.ListN.{length}
 use lib.Dec.{eqb}
 use Rattle.base.specs.Answer.{Answer, accepted, refused, pick}
@@ -13,6 +13,11 @@ pub data Res (A : Type 0) : Type 0 where
 unfoldable pub then : {A B : Type 0} → Res A → (A → ℕ → Res B) → Res B
 then (ok a at) next = next a at
 then (no n) next = no n
+
+-- n items of one kind, one after the other
+unfoldable pub manyAt : {A : Type 0} → (List ℕ → ℕ → Res A) → ℕ → List ℕ → ℕ → Res (List A)
+manyAt item zero s at = ok [] at
+manyAt item (suc n) s at = then (item s at) λ a p. then (manyAt item n s p) λ rest q. ok (a ∷ rest) q
 
 -- "nothing may follow": what was read of the bytes s is the answer where it ends with them
 unfoldable pub whole : {A : Type 0} → List ℕ → Res A → Answer A

@@ -1,0 +1,93 @@
+// What stands before the first data server of a layout body, and behind the last.
+use base::Refusal;
+use xdr::Cursor;
+use xdr::ReadU32;
+use xdr::ReadU64;
+ghost use mathlib.Core.Path.{_≡_};
+ghost use Rattle.layout.specs.Layouts.{frontAt, tailAt};
+ghost use Rattle.layout.specs.Answers.{resFront, resTail, whyFront, whyTail};
+
+// The stripe unit, the mirror count and the first mirror's server count.
+pub struct Front {
+    pub unit: u64,
+    pub mirrors: u32,
+    pub servers: u32,
+}
+
+pub enum ReadFront {
+    Value(Front, Cursor),
+    Refused(Refusal),
+}
+
+pub struct Tail {
+    pub flags: u32,
+    pub hint: u32,
+}
+
+pub enum ReadTail {
+    Value(Tail, Cursor),
+    Refused(Refusal),
+}
+
+pub fn read_front(s: &[u8], c: Cursor) -> ReadFront
+    ensures { λ r. ⌜ resFront r ≡ frontAt (now (s .entry)) (c .at) ⌝ }
+{
+    let u = xdr::read_u64(s, c);
+    let ReadU64::Value(unit, c1) = u else {
+        return ReadFront::Refused(xdr::why_u64(u));
+    };
+    let m = xdr::read_count(s, c1, 1, 8);
+    let ReadU32::Value(mirrors, c2) = m else {
+        return ReadFront::Refused(xdr::why_u32(m));
+    };
+    let n = xdr::read_count(s, c2, 1, 16);
+    let ReadU32::Value(servers, c3) = n else {
+        return ReadFront::Refused(xdr::why_u32(n));
+    };
+    if (servers == 1) != (unit == 0) {
+        return ReadFront::Refused(Refusal::UnitDisagrees);
+    }
+    ReadFront::Value(
+        Front {
+            unit,
+            mirrors,
+            servers,
+        },
+        c3,
+    )
+}
+
+pub fn read_tail(s: &[u8], c: Cursor) -> ReadTail
+    ensures { λ r. ⌜ resTail r ≡ tailAt (now (s .entry)) (c .at) ⌝ }
+{
+    let f = xdr::read_u32(s, c);
+    let ReadU32::Value(flags, c1) = f else {
+        return ReadTail::Refused(xdr::why_u32(f));
+    };
+    if 15 < flags {
+        return ReadTail::Refused(Refusal::FlagUnknown);
+    }
+    let h = xdr::read_u32(s, c1);
+    let ReadU32::Value(hint, c2) = h else {
+        return ReadTail::Refused(xdr::why_u32(h));
+    };
+    ReadTail::Value(Tail { flags, hint }, c2)
+}
+
+pub fn why_front(r: ReadFront) -> Refusal
+    ensures { λ e. ⌜ e ≡ whyFront r ⌝ }
+{
+    match r {
+        ReadFront::Refused(e) => e,
+        ReadFront::Value(_, _) => Refusal::BytesRunOut,
+    }
+}
+
+pub fn why_tail(r: ReadTail) -> Refusal
+    ensures { λ e. ⌜ e ≡ whyTail r ⌝ }
+{
+    match r {
+        ReadTail::Refused(e) => e,
+        ReadTail::Value(_, _) => Refusal::BytesRunOut,
+    }
+}

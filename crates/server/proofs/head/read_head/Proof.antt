@@ -1,0 +1,103 @@
+-- `server::head::read_head` meets its contract, item by item.
+use Rattle.server.specs.Servers.{headAt}
+use Rattle.xdr.proofs.Steps.{came, handed}
+use Rattle.xdr.specs.Answers.{resPart, resU32, whyPart, whyU32}
+use Rattle.xdr.specs.Res.{no, then}
+use borrow.Author.Needs.{needs}
+use mathlib.Core.Path.{refl}
+use Rattle.server.proofs.head.read_head.Statement.{statement}
+use Rattle.server.proofs.head.read_head.Tie as tie
+
+read-bytes-requires : tie.Need-read-bytes-requires
+read-bytes-requires c κs = search needs
+
+enum-known-d : tie.Need-enum-known-d
+enum-known-d c = search needs
+
+enum-told : tie.Need-enum-told
+enum-told c = search needs
+
+why-part-requires : tie.Need-why-part-requires
+why-part-requires c κs = search needs
+
+returns : tie.Need-returns
+unfolding headAt then
+returns c = rw (handed resPart whyPart no (c .before .before .before .read-bytes .ensures) (c .before .enum-told .given .1) (c .why-part .ensures) refl)
+
+read-u32-requires : tie.Need-read-u32-requires
+read-u32-requires c κs = search needs
+
+enum-known-e : tie.Need-enum-known-e
+enum-known-e c = search needs
+
+enum-told-2 : tie.Need-enum-told-2
+enum-told-2 c = search needs
+
+why-u32-requires : tie.Need-why-u32-requires
+why-u32-requires c κs = search needs
+
+returns-2 : tie.Need-returns-2
+unfolding headAt then
+returns-2 c = rw (came resPart (c .before .before .before .before .before .before .before .read-bytes .ensures) (c .before .before .before .before .before .d .given .1), handed resU32 whyU32 no (c .before .before .before .read-u32 .ensures) (c .before .enum-told2 .given .1) (c .why-u32 .ensures) refl)
+
+read-bytes-requires-2 : tie.Need-read-bytes-requires-2
+read-bytes-requires-2 c κs = search needs
+
+enum-known-t : tie.Need-enum-known-t
+enum-known-t c = search needs
+
+enum-told-3 : tie.Need-enum-told-3
+enum-told-3 c = search needs
+
+why-part-requires-2 : tie.Need-why-part-requires-2
+why-part-requires-2 c κs = search needs
+
+returns-3 : tie.Need-returns-3
+unfolding headAt then
+returns-3 c = rw (came resPart (c .before .before .before .before .before .before .before .before .before .before .before .read-bytes .ensures) (c .before .before .before .before .before .before .before .before .before .d .given .1), came resU32 (c .before .before .before .before .before .before .before .read-u32 .ensures) (c .before .before .before .before .before .e .given .1), handed resPart whyPart no (c .before .before .before .read-bytes2 .ensures) (c .before .enum-told3 .given .1) (c .why-part2 .ensures) refl)
+
+read-count-requires : tie.Need-read-count-requires
+read-count-requires c κs = search needs
+
+enum-known-n : tie.Need-enum-known-n
+enum-known-n c = search needs
+
+enum-told-4 : tie.Need-enum-told-4
+enum-told-4 c = search needs
+
+why-u32-requires-2 : tie.Need-why-u32-requires-2
+why-u32-requires-2 c κs = search needs
+
+returns-4 : tie.Need-returns-4
+unfolding headAt then
+returns-4 c = rw (came resPart (c .before .before .before .before .before .before .before .before .before .before .before .before .before .before .before .read-bytes .ensures) (c .before .before .before .before .before .before .before .before .before .before .before .before .before .d .given .1), came resU32 (c .before .before .before .before .before .before .before .before .before .before .before .read-u32 .ensures) (c .before .before .before .before .before .before .before .before .before .e .given .1), came resPart (c .before .before .before .before .before .before .before .read-bytes2 .ensures) (c .before .before .before .before .before .t .given .1), handed resU32 whyU32 no (c .before .before .before .read-count .ensures) (c .before .enum-told4 .given .1) (c .why-u322 .ensures) refl)
+
+returns-5 : tie.Need-returns-5
+unfolding headAt then
+returns-5 c = rw (came resPart (c .before .before .before .before .before .before .before .before .before .before .before .before .before .before .before .read-bytes .ensures) (c .before .before .before .before .before .before .before .before .before .before .before .before .before .d .given .1), came resU32 (c .before .before .before .before .before .before .before .before .before .before .before .read-u32 .ensures) (c .before .before .before .before .before .before .before .before .before .e .given .1), came resPart (c .before .before .before .before .before .before .before .read-bytes2 .ensures) (c .before .before .before .before .before .t .given .1), came resU32 (c .before .before .before .read-count .ensures) (c .before .n .given .1))
+
+pub read-head-spec : {M : Type 1} → statement M
+read-head-spec =
+    tie.close
+    (tie.spec
+    read-bytes-requires
+    enum-known-d
+    enum-told
+    why-part-requires
+    returns
+    read-u32-requires
+    enum-known-e
+    enum-told-2
+    why-u32-requires
+    returns-2
+    read-bytes-requires-2
+    enum-known-t
+    enum-told-3
+    why-part-requires-2
+    returns-3
+    read-count-requires
+    enum-known-n
+    enum-told-4
+    why-u32-requires-2
+    returns-4
+    returns-5)

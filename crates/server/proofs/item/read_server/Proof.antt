@@ -1,0 +1,105 @@
+-- `server::item::read_server` meets its contract, item by item.
+use Rattle.server.proofs.HandleLaws.{end-then, end-refused}
+use Rattle.server.specs.Answers.{resEnd, resHead, whyEnd, whyHead}
+use Rattle.server.specs.Servers.{serverAt}
+use Rattle.xdr.proofs.Steps.{came, handed}
+use Rattle.xdr.specs.Answers.{resPart, whyPart}
+use Rattle.xdr.specs.Res.{no, then}
+use borrow.Author.Needs.{needs}
+use mathlib.Core.Path.{refl, sym, _∙_}
+use Rattle.server.proofs.item.read_server.Statement.{statement}
+use Rattle.server.proofs.item.read_server.Tie as tie
+
+read-head-requires : tie.Need-read-head-requires
+read-head-requires c κs = search needs
+
+enum-known-h : tie.Need-enum-known-h
+enum-known-h c = search needs
+
+enum-told : tie.Need-enum-told
+enum-told c = search needs
+
+why-head-requires : tie.Need-why-head-requires
+why-head-requires c κs = search needs
+
+returns : tie.Need-returns
+unfolding serverAt then
+returns c = rw (handed resHead whyHead no (c .before .before .before .read-head .ensures) (c .before .enum-told .given .1) (c .why-head .ensures) refl)
+
+skip-handles-requires : tie.Need-skip-handles-requires
+skip-handles-requires c κs = search needs
+
+enum-known-n : tie.Need-enum-known-n
+enum-known-n c = search needs
+
+enum-told-2 : tie.Need-enum-told-2
+enum-told-2 c = search needs
+
+why-end-requires : tie.Need-why-end-requires
+why-end-requires c κs = search needs
+
+returns-2 : tie.Need-returns-2
+unfolding serverAt then
+returns-2 c = rw (came resHead (c .before .before .before .before .before .before .before .read-head .ensures) (c .before .before .before .before .before .h .given .1)) (sym (end-refused _ _ _ (handed resEnd whyEnd no (c .before .before .before .skip-handles .ensures) (c .before .enum-told2 .given .1) (c .why-end .ensures) refl)))
+
+read-opaque-requires : tie.Need-read-opaque-requires
+read-opaque-requires c κs = search needs
+
+enum-known-u : tie.Need-enum-known-u
+enum-known-u c = search needs
+
+enum-told-3 : tie.Need-enum-told-3
+enum-told-3 c = search needs
+
+why-part-requires : tie.Need-why-part-requires
+why-part-requires c κs = search needs
+
+returns-3 : tie.Need-returns-3
+unfolding serverAt then
+returns-3 c = rw (came resHead (c .before .before .before .before .before .before .before .before .before .before .before .read-head .ensures) (c .before .before .before .before .before .before .before .before .before .h .given .1)) (sym (end-then _ _ _ (came resEnd (c .before .before .before .before .before .before .before .skip-handles .ensures) (c .before .before .before .before .before .n .given .1)) ∙ rw (handed resPart whyPart no (c .before .before .before .read-opaque .ensures) (c .before .enum-told3 .given .1) (c .why-part .ensures) refl)))
+
+read-opaque-requires-2 : tie.Need-read-opaque-requires-2
+read-opaque-requires-2 c κs = search needs
+
+enum-known-g : tie.Need-enum-known-g
+enum-known-g c = search needs
+
+enum-told-4 : tie.Need-enum-told-4
+enum-told-4 c = search needs
+
+why-part-requires-2 : tie.Need-why-part-requires-2
+why-part-requires-2 c κs = search needs
+
+returns-4 : tie.Need-returns-4
+unfolding serverAt then
+returns-4 c = rw (came resHead (c .before .before .before .before .before .before .before .before .before .before .before .before .before .before .before .read-head .ensures) (c .before .before .before .before .before .before .before .before .before .before .before .before .before .h .given .1)) (sym (end-then _ _ _ (came resEnd (c .before .before .before .before .before .before .before .before .before .before .before .skip-handles .ensures) (c .before .before .before .before .before .before .before .before .before .n .given .1)) ∙ rw (came resPart (c .before .before .before .before .before .before .before .read-opaque .ensures) (c .before .before .before .before .before .u .given .1), handed resPart whyPart no (c .before .before .before .read-opaque2 .ensures) (c .before .enum-told4 .given .1) (c .why-part2 .ensures) refl)))
+
+returns-5 : tie.Need-returns-5
+unfolding serverAt then
+returns-5 c = rw (came resHead (c .before .before .before .before .before .before .before .before .before .before .before .before .before .before .before .read-head .ensures) (c .before .before .before .before .before .before .before .before .before .before .before .before .before .h .given .1)) (sym (end-then _ _ _ (came resEnd (c .before .before .before .before .before .before .before .before .before .before .before .skip-handles .ensures) (c .before .before .before .before .before .before .before .before .before .n .given .1)) ∙ rw (came resPart (c .before .before .before .before .before .before .before .read-opaque .ensures) (c .before .before .before .before .before .u .given .1), came resPart (c .before .before .before .read-opaque2 .ensures) (c .before .g .given .1))))
+
+pub read-server-spec : {M : Type 1} → statement M
+read-server-spec =
+    tie.close
+    (tie.spec
+    read-head-requires
+    enum-known-h
+    enum-told
+    why-head-requires
+    returns
+    skip-handles-requires
+    enum-known-n
+    enum-told-2
+    why-end-requires
+    returns-2
+    read-opaque-requires
+    enum-known-u
+    enum-told-3
+    why-part-requires
+    returns-3
+    read-opaque-requires-2
+    enum-known-g
+    enum-told-4
+    why-part-requires-2
+    returns-4
+    returns-5)

@@ -1,0 +1,43 @@
+-- What the answers of the data server's readers say.
+use Prim.Native.Nat.{ℕ}
+use Rattle.base.specs.Refusals.{numberOf}
+use Rattle.base.specs.declared.refusal.Refusal.{Refusal}
+use Rattle.base.specs.declared.refusal.Refusal.the-variants.{BytesRunOut}
+use Rattle.xdr.specs.Res.{Res, ok, no}
+use Rattle.server.specs.declared.head.ServerHead.{ServerHead}
+use Rattle.server.specs.declared.head.ReadHead.{ReadHead}
+use Rattle.server.specs.declared.head.ReadHead.the-variants as head
+use Rattle.server.specs.declared.handles.ReadEnd.{ReadEnd}
+use Rattle.server.specs.declared.handles.ReadEnd.the-variants as end
+use Rattle.server.specs.declared.item.Server.{Server}
+use Rattle.server.specs.declared.item.ReadServer.{ReadServer}
+use Rattle.server.specs.declared.item.ReadServer.the-variants as server
+
+abbrev pub resHead : ReadHead → Res ServerHead
+resHead (head.Value h c) = ok h (c .at)
+resHead (head.Refused e) = no (numberOf e)
+
+abbrev pub whyHead : ReadHead → Refusal
+whyHead (head.Value h c) = BytesRunOut
+whyHead (head.Refused e) = e
+
+-- only the place behind an item
+unfoldable pub endOf : {A : Type 0} → Res A → Res (Unit {0})
+endOf (ok a at) = ok tt at
+endOf (no n) = no n
+
+abbrev pub resEnd : ReadEnd → Res (Unit {0})
+resEnd (end.Value c) = ok tt (c .at)
+resEnd (end.Refused e) = no (numberOf e)
+
+abbrev pub whyEnd : ReadEnd → Refusal
+whyEnd (end.Value c) = BytesRunOut
+whyEnd (end.Refused e) = e
+
+abbrev pub resServer : ReadServer → Res Server
+resServer (server.Value v c) = ok v (c .at)
+resServer (server.Refused e) = no (numberOf e)
+
+abbrev pub whyServer : ReadServer → Refusal
+whyServer (server.Value v c) = BytesRunOut
+whyServer (server.Refused e) = e

@@ -1,0 +1,39 @@
+// The filehandles of a data server.
+use base::Refusal;
+use xdr::Cursor;
+use xdr::ReadPart;
+ghost use mathlib.Core.Path.{_≡_};
+ghost use Rattle.server.specs.Servers.{handlesAt};
+ghost use Rattle.server.specs.Answers.{resEnd, endOf, whyEnd};
+
+// The place behind what was read.
+pub enum ReadEnd {
+    Value(Cursor),
+    Refused(Refusal),
+}
+
+// Past n filehandles.
+pub fn skip_handles(s: &[u8], c: Cursor, n: u32) -> ReadEnd
+    ensures { λ r. ⌜ resEnd r ≡ endOf (handlesAt n (now (s .entry)) (c .at)) ⌝ }
+{
+    let mut d = c;
+    let mut left = n;
+    while 0 < left {
+        let r = xdr::read_opaque(s, d, 1, 128);
+        let ReadPart::Value(_, e) = r else {
+            return ReadEnd::Refused(xdr::why_part(r));
+        };
+        d = e;
+        left -= 1;
+    }
+    ReadEnd::Value(d)
+}
+
+pub fn why_end(r: ReadEnd) -> Refusal
+    ensures { λ e. ⌜ e ≡ whyEnd r ⌝ }
+{
+    match r {
+        ReadEnd::Refused(e) => e,
+        ReadEnd::Value(_) => Refusal::BytesRunOut,
+    }
+}

@@ -1,0 +1,60 @@
+// What a data server begins with: device id, efficiency, stateid and the number of filehandles.
+use base::Refusal;
+use xdr::Cursor;
+use xdr::ReadPart;
+use xdr::ReadU32;
+ghost use mathlib.Core.Path.{_≡_};
+ghost use Rattle.server.specs.Servers.{headAt};
+ghost use Rattle.server.specs.Answers.{resHead, whyHead};
+
+// Device id and stateid by their places.
+pub struct ServerHead {
+    pub device: usize,
+    pub efficiency: u32,
+    pub stateid: usize,
+    pub handles: u32,
+}
+
+pub enum ReadHead {
+    Value(ServerHead, Cursor),
+    Refused(Refusal),
+}
+
+pub fn read_head(s: &[u8], c: Cursor) -> ReadHead
+    ensures { λ r. ⌜ resHead r ≡ headAt (now (s .entry)) (c .at) ⌝ }
+{
+    let d = xdr::read_bytes(s, c, 16);
+    let ReadPart::Value(device, c1) = d else {
+        return ReadHead::Refused(xdr::why_part(d));
+    };
+    let e = xdr::read_u32(s, c1);
+    let ReadU32::Value(efficiency, c2) = e else {
+        return ReadHead::Refused(xdr::why_u32(e));
+    };
+    let t = xdr::read_bytes(s, c2, 16);
+    let ReadPart::Value(stateid, c3) = t else {
+        return ReadHead::Refused(xdr::why_part(t));
+    };
+    let n = xdr::read_count(s, c3, 1, 8);
+    let ReadU32::Value(handles, c4) = n else {
+        return ReadHead::Refused(xdr::why_u32(n));
+    };
+    ReadHead::Value(
+        ServerHead {
+            device: device.start,
+            efficiency,
+            stateid: stateid.start,
+            handles,
+        },
+        c4,
+    )
+}
+
+pub fn why_head(r: ReadHead) -> Refusal
+    ensures { λ e. ⌜ e ≡ whyHead r ⌝ }
+{
+    match r {
+        ReadHead::Refused(e) => e,
+        ReadHead::Value(_, _) => Refusal::BytesRunOut,
+    }
+}

@@ -1,0 +1,72 @@
+// A data server as one item.
+use base::Refusal;
+use xdr::Cursor;
+use xdr::Part;
+use xdr::ReadPart;
+use crate::handles::ReadEnd;
+use crate::handles::skip_handles;
+use crate::handles::why_end;
+use crate::head::ReadHead;
+use crate::head::read_head;
+use crate::head::why_head;
+ghost use mathlib.Core.Path.{_≡_};
+ghost use Rattle.server.specs.Servers.{serverAt};
+ghost use Rattle.server.specs.Answers.{resServer, whyServer};
+
+// Device id, stateid and the first filehandle's length by their places.
+pub struct Server {
+    pub device: usize,
+    pub efficiency: u32,
+    pub stateid: usize,
+    pub handles: u32,
+    pub first_handle: usize,
+    pub user: Part,
+    pub group: Part,
+}
+
+pub enum ReadServer {
+    Value(Server, Cursor),
+    Refused(Refusal),
+}
+
+pub fn read_server(s: &[u8], c: Cursor) -> ReadServer
+    ensures { λ r. ⌜ resServer r ≡ serverAt (now (s .entry)) (c .at) ⌝ }
+{
+    let h = read_head(s, c);
+    let ReadHead::Value(head, c1) = h else {
+        return ReadServer::Refused(why_head(h));
+    };
+    let n = skip_handles(s, c1, head.handles);
+    let ReadEnd::Value(c2) = n else {
+        return ReadServer::Refused(why_end(n));
+    };
+    let u = xdr::read_opaque(s, c2, 0, 64);
+    let ReadPart::Value(user, c3) = u else {
+        return ReadServer::Refused(xdr::why_part(u));
+    };
+    let g = xdr::read_opaque(s, c3, 0, 64);
+    let ReadPart::Value(group, c4) = g else {
+        return ReadServer::Refused(xdr::why_part(g));
+    };
+    ReadServer::Value(
+        Server {
+            device: head.device,
+            efficiency: head.efficiency,
+            stateid: head.stateid,
+            handles: head.handles,
+            first_handle: c1.at,
+            user,
+            group,
+        },
+        c4,
+    )
+}
+
+pub fn why_server(r: ReadServer) -> Refusal
+    ensures { λ e. ⌜ e ≡ whyServer r ⌝ }
+{
+    match r {
+        ReadServer::Refused(e) => e,
+        ReadServer::Value(_, _) => Refusal::BytesRunOut,
+    }
+}

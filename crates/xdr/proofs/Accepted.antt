@@ -1,0 +1,119 @@
+-- What holds of items that were read: the items before them, the tests that they passed, their limits and where they end.
+use Prim.Native.Nat.{ℕ, zero, suc, _+_, _-_, _%_, _≤_}
+use mathlib.Core.Path.{_≡_, refl, sym, ap, _∙_}
+use mathlib.Core.Bool.{Bool, true, false, _&&_, false≢true}
+use mathlib.Core.List.{List, [], _∷_}
+use native.Mathlib.Omega.{arith}
+use borrow.Author.Tests.{leb-true}
+use lib.Dec.{leb}
+use lib.ListN.{length}
+use Rattle.base.specs.Answer.{pick}
+use Rattle.numbers.specs.Numbers.{bytesFrom, beValue}
+use Rattle.xdr.specs.Res.{Res, ok, no, then, manyAt}
+use Rattle.xdr.specs.Items.{allZero, bytesAt, countAt, numAt, opaqueAt, padding}
+use Rattle.xdr.specs.declared.Part.{Part}
+
+pub never : {A B : Type 0} (n : ℕ) (a : A) (p : ℕ) → no n ≡ ok a p → B
+never n a p e = let z : _≡_ {A = ℕ} 0 1 = cc in absurd (omega arith)
+
+pub same-value : {A : Type 0} {a b : A} {p q : ℕ} → ok a p ≡ ok b q → a ≡ b
+same-value e = cc
+
+pub same-place : {A : Type 0} {a b : A} {p q : ℕ} → ok a p ≡ ok b q → p ≡ q
+same-place e = cc
+
+-- the item that an accepted run began with, and the run behind it
+pub record Ran {A B : Type 0} (x : Res A) (f : A → ℕ → Res B) (b : B) (q : ℕ) : Type 0 where
+  pub item : A
+  pub next : ℕ
+  pub first : x ≡ ok item next
+  pub rest : f item next ≡ ok b q
+
+pub ran : {A B : Type 0} (x : Res A) (f : A → ℕ → Res B) (b : B) (q : ℕ) → then x f ≡ ok b q → Ran x f b q
+unfolding then
+ran (ok a p) f b q h = record { item = a; next = p; first = refl; rest = h }
+ran (no n) f b q h = never n b q h
+
+-- the test that an accepted item passed
+pub record Passed {A : Type 0} (t : Bool) (x : Res A) (a : A) (p : ℕ) : Type 0 where
+  pub test : t ≡ true
+  pub chosen : x ≡ ok a p
+
+pub passed : {A : Type 0} (t : Bool) (x : Res A) (n : ℕ) (a : A) (p : ℕ) → pick t x (no n) ≡ ok a p → Passed t x a p
+unfolding pick
+passed true x n a p e = record { test = refl; chosen = e }
+passed false x n a p e = never n a p e
+
+pub both : (a b : Bool) → (a && b) ≡ true → (a ≡ true) × (b ≡ true)
+both true b h = (refl, h)
+both false b h = absurd (false≢true h)
+
+pub record Number (k : ℕ) (s : List ℕ) (at n p : ℕ) : Type 0 where
+  pub value : n ≡ beValue (bytesFrom k s at)
+  pub end : p ≡ at + k
+  pub within : p ≤ length s
+
+pub number-read : (k : ℕ) (s : List ℕ) (at n p : ℕ) → numAt k s at ≡ ok n p → Number k s at n p
+unfolding numAt
+number-read k s at n p h =
+    let r = passed _ _ 1 n p h in
+    let e : at + k ≤ length s = leb-true _ _ (r .test) in
+    let f : at + k ≡ p = same-place (r .chosen) in
+    record { value = sym (same-value (r .chosen)); end = sym f; within = omega arith }
+
+pub record Count (lo hi : ℕ) (s : List ℕ) (at n p : ℕ) : Type 0 where
+  pub low : lo ≤ n
+  pub high : n ≤ hi
+  pub number : Number 4 s at n p
+
+pub count-read : (lo hi : ℕ) (s : List ℕ) (at n p : ℕ) → countAt lo hi s at ≡ ok n p → Count lo hi s at n p
+unfolding countAt
+count-read lo hi s at n p h =
+    let r = ran _ _ n p h in
+    let t = passed _ _ 8 n p (r .rest) in
+    let b = both _ _ (t .test) in
+    let e : r .item ≡ n = same-value (t .chosen) in
+    let l : lo ≤ r .item = leb-true _ _ (b .0) in
+    let u : r .item ≤ hi = leb-true _ _ (b .1) in
+    record { low = omega arith; high = omega arith; number = number-read 4 s at n p (r .first ∙ t .chosen) }
+
+pub record Bytes (n : ℕ) (s : List ℕ) (at : ℕ) (v : Part) (p : ℕ) : Type 0 where
+  pub value : v ≡ record { start = at; len = n }
+  pub end : p ≡ at + n + padding n
+  pub within : p ≤ length s
+  pub zeros : allZero (bytesFrom (padding n) s (at + n)) ≡ true
+
+pub bytes-read : (n : ℕ) (s : List ℕ) (at : ℕ) (v : Part) (p : ℕ) → bytesAt n s at ≡ ok v p → Bytes n s at v p
+unfolding bytesAt
+bytes-read n s at v p h =
+    let r = passed _ _ 1 v p h in
+    let t = passed _ _ 6 v p (r .chosen) in
+    let e : at + n + padding n ≤ length s = leb-true _ _ (r .test) in
+    let f : at + n + padding n ≡ p = same-place (t .chosen) in
+    record { value = sym (same-value (t .chosen)); end = sym f; within = rw f at e; zeros = t .test }
+
+pub record Opaque (lo hi : ℕ) (s : List ℕ) (at : ℕ) (v : Part) (p : ℕ) : Type 0 where
+  pub count : Count lo hi s at (v .len) (at + 4)
+  pub bytes : Bytes (v .len) s (at + 4) v p
+
+pub opaque-read : (lo hi : ℕ) (s : List ℕ) (at : ℕ) (v : Part) (p : ℕ) → opaqueAt lo hi s at ≡ ok v p → Opaque lo hi s at v p
+unfolding opaqueAt
+opaque-read lo hi s at v p h =
+    let r = ran _ _ v p h in
+    let n = count-read lo hi s at (r .item) (r .next) (r .first) in
+    let b = bytes-read (r .item) s (r .next) v p (r .rest) in
+    let e : r .item ≡ v .len = ap (λ (x : Part). x .len) (sym (b .value)) in
+    let f : r .next ≡ at + 4 = n .number .end in
+    record { count = rw (e, f) at n; bytes = rw (e, f) at b }
+
+-- items that each end inside the bytes do so together
+pub many-within : {A : Type 0} (item : List ℕ → ℕ → Res A) (s : List ℕ)
+    → ((at : ℕ) (a : A) (p : ℕ) → item s at ≡ ok a p → p ≤ length s)
+    → (n at : ℕ) (l : List A) (p : ℕ) → at ≤ length s → manyAt item n s at ≡ ok l p → p ≤ length s
+unfolding manyAt
+many-within item s h zero at l p k e = let f : at ≡ p = same-place e in rw f at k
+many-within item s h (suc n) at l p k e =
+    let r = ran _ _ l p e in
+    let t = ran _ _ l p (r .rest) in
+    let f : t .next ≡ p = same-place (t .rest) in
+    rw (← f) (many-within item s h n (r .next) (t .item) (t .next) (h at (r .item) (r .next) (r .first)) (t .first))
