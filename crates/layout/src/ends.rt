@@ -4,7 +4,7 @@ use xdr::Cursor;
 use xdr::ReadU32;
 use xdr::ReadU64;
 ghost use mathlib.Core.Path.{_≡_};
-ghost use Rattle.layout.specs.Layouts.{frontAt, tailAt};
+ghost use Rattle.layout.specs.Layouts.{frontAt, tailAt, unitFits};
 ghost use Rattle.layout.specs.Answers.{resFront, resTail, whyFront, whyTail};
 
 // The stripe unit, the mirror count and the first mirror's server count.
@@ -29,6 +29,15 @@ pub enum ReadTail {
     Refused(Refusal),
 }
 
+fn unit_fits(unit: u64, servers: u32) -> bool
+    ensures { λ r. ⌜ r ≡ unitFits unit servers ⌝ }
+{
+    if servers == 1 {
+        return unit == 0;
+    }
+    1 <= unit
+}
+
 pub fn read_front(s: &[u8], c: Cursor) -> ReadFront
     ensures { λ r. ⌜ resFront r ≡ frontAt (now (s .entry)) (c .at) ⌝ }
 {
@@ -44,7 +53,7 @@ pub fn read_front(s: &[u8], c: Cursor) -> ReadFront
     let ReadU32::Value(servers, c3) = n else {
         return ReadFront::Refused(xdr::why_u32(n));
     };
-    if (servers == 1) != (unit == 0) {
+    if !unit_fits(unit, servers) {
         return ReadFront::Refused(Refusal::UnitDisagrees);
     }
     ReadFront::Value(

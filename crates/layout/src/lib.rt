@@ -3,4 +3,7 @@ mod body;
 mod ends;
 mod mirrors;
 
-pub use body::{LayoutAnswer, LayoutRead, Summary, read_layout};
+pub use body::LayoutAnswer;
+pub use body::LayoutRead;
+pub use body::Summary;
+pub use body::read_layout;

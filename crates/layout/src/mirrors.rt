@@ -1,20 +1,21 @@
-// The mirrors of a layout body, and where each data server starts. The table of starts is borrowed by these loops, so that it is copied once.
+// The mirrors of a layout body, and where each data server starts. The loops borrow the table of starts, so that it is copied only once.
 use base::Refusal;
 use server::ReadEnd;
 use server::ReadServer;
 use xdr::Cursor;
 use xdr::ReadU32;
 ghost use mathlib.Core.Path.{_≡_};
-ghost use Prim.Native.Nat.{_+_, _*_, _≤_};
-ghost use mathlib.Core.List.{List, []};
+ghost use Prim.Native.Nat.{_+_, _≤_};
 ghost use lib.ListN.{length};
 ghost use Rattle.server.specs.Servers.{serverAt};
 ghost use Rattle.xdr.specs.Res.{manyAt};
-ghost use Rattle.layout.specs.Layouts.{mirrorAt};
-ghost use Rattle.layout.specs.Answers.{resEnd, startsOf};
+ghost use Rattle.layout.specs.Layouts.{mirrorAt, mirrorsAt};
+ghost use Rattle.layout.specs.Starts.{resStarts, withServers, withMirrors};
 
 // n servers, their starts from the index first on.
 fn read_servers(s: &[u8], c: Cursor, n: u32, first: usize, starts: &mut [u16; 128]) -> ReadEnd
+    requires { ⌜ (length (now s) ≤ 4090) × (c .at ≤ length (now s)) × (first + n ≤ 128) ⌝ }
+    ensures { λ r. ⌜ resStarts r (now (starts .exit)) ≡ withServers first (manyAt serverAt n (now (s .entry)) (c .at)) (now (starts .entry)) ⌝ }
 {
     let mut d = c;
     let mut left = n;
@@ -29,6 +30,49 @@ fn read_servers(s: &[u8], c: Cursor, n: u32, first: usize, starts: &mut [u16; 12
         d = e;
         k += 1;
         left -= 1;
+    }
+    ReadEnd::Value(d)
+}
+
+// A mirror behind the first: its count, then its n servers.
+fn read_mirror(s: &[u8], c: Cursor, n: u32, first: usize, starts: &mut [u16; 128]) -> ReadEnd
+    requires { ⌜ (length (now s) ≤ 4090) × (first + n ≤ 128) ⌝ }
+    ensures { λ r. ⌜ resStarts r (now (starts .exit)) ≡ withServers first (mirrorAt n (now (s .entry)) (c .at)) (now (starts .entry)) ⌝ }
+{
+    let r = xdr::read_count(s, c, 1, 16);
+    let ReadU32::Value(count, d) = r else {
+        return ReadEnd::Refused(xdr::why_u32(r));
+    };
+    if count != n {
+        return ReadEnd::Refused(Refusal::ServerCountDiffers);
+    }
+    read_servers(s, d, n, first, starts)
+}
+
+// All mirrors, from the first server on. The index of a start is 16 times its mirror and its stripe.
+pub(crate) fn read_mirrors(
+    s: &[u8],
+    c: Cursor,
+    mirrors: u32,
+    servers: u32,
+    starts: &mut [u16; 128],
+) -> ReadEnd
+    requires { ⌜ (length (now s) ≤ 4090) × (c .at ≤ length (now s)) × (mirrors ≤ 8) × (servers ≤ 16) ⌝ }
+    ensures { λ r. ⌜ resStarts r (now (starts .exit)) ≡ withMirrors 0 (mirrorsAt mirrors servers (now (s .entry)) (c .at)) (now (starts .entry)) ⌝ }
+{
+    let f = read_servers(s, c, servers, 0, starts);
+    let ReadEnd::Value(c1) = f else {
+        return f;
+    };
+    let mut d = c1;
+    let mut m: usize = 1;
+    while m < mirrors as usize {
+        let r = read_mirror(s, d, servers, m * 16, starts);
+        let ReadEnd::Value(e) = r else {
+            return r;
+        };
+        d = e;
+        m += 1;
     }
     ReadEnd::Value(d)
 }

@@ -48,7 +48,8 @@ head-read s at v p h =
       some = omega (arith, nc .low, hv);
       few = omega (arith, nc .high, hv);
       end = omega (arith, nc .number .end, q3, f);
-      within = omega (arith, nc .number .within, f) }
+      within = omega (arith, nc .number .within, f);
+    }
 
 pub record Read (s : List ℕ) (at : ℕ) (v : Server) (p : ℕ) : Type 0 where
   pub device : v .device ≡ at
@@ -81,4 +82,5 @@ server-read s at v p h =
       few = omega (arith, k .few, ap (λ (x : Server). x .handles) e);
       first = ap (λ (x : Server). x .«first_handle») (sym e) ∙ k .end;
       inside = omega (arith, k .within, k .end);
-      within = omega (arith, gr .bytes .within, f) }
+      within = omega (arith, gr .bytes .within, f);
+    }

@@ -28,5 +28,11 @@ serverAt s at =
     then (opaqueAt 0 64 s p2) λ user p3.
     then (opaqueAt 0 64 s p3) λ group p4.
     ok (record {
-      device = head .device; efficiency = head .efficiency; stateid = head .stateid; handles = head .handles; «first_handle» = p1;
-      user = user; group = group }) p4
+      device = head .device;
+      efficiency = head .efficiency;
+      stateid = head .stateid;
+      handles = head .handles;
+      «first_handle» = p1;
+      user = user;
+      group = group;
+    }) p4

@@ -1,14 +1,14 @@
 // A data server as one item.
-use base::Refusal;
-use xdr::Cursor;
-use xdr::Part;
-use xdr::ReadPart;
 use crate::handles::ReadEnd;
 use crate::handles::skip_handles;
 use crate::handles::why_end;
 use crate::head::ReadHead;
 use crate::head::read_head;
 use crate::head::why_head;
+use base::Refusal;
+use xdr::Cursor;
+use xdr::Part;
+use xdr::ReadPart;
 ghost use mathlib.Core.Path.{_≡_};
 ghost use Rattle.server.specs.Servers.{serverAt};
 ghost use Rattle.server.specs.Answers.{resServer, whyServer};

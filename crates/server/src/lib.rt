@@ -1,8 +1,16 @@
 // One data server of a layout body.
-mod head;
 mod handles;
+mod head;
 mod item;
 
-pub use handles::{ReadEnd, skip_handles, why_end};
-pub use head::{ReadHead, ServerHead, read_head, why_head};
-pub use item::{ReadServer, Server, read_server, why_server};
+pub use handles::ReadEnd;
+pub use handles::skip_handles;
+pub use handles::why_end;
+pub use head::ReadHead;
+pub use head::ServerHead;
+pub use head::read_head;
+pub use head::why_head;
+pub use item::ReadServer;
+pub use item::Server;
+pub use item::read_server;
+pub use item::why_server;

@@ -1,0 +1,4 @@
+pub mod BodyLaws
+pub mod FrontLaws
+pub mod StartLaws
+pub mod TableLaws

@@ -1,0 +1,80 @@
+-- Laws of the table of starts as the loops fill it.
+use Prim.Native.Nat.{ℕ, zero, suc, _+_, _-_, _*_, _≤_, _<_}
+use mathlib.Core.Path.{_≡_, refl, sym, ap, _∙_}
+use mathlib.Core.List.{List, [], _∷_, _++_, map}
+use native.Mathlib.Numerals.{add-one}
+use native.Mathlib.Omega.{arith}
+use lib.ListN.{length, set, replicate}
+use lib.Seq.{sets}
+use Rattle.xdr.specs.Res.{Res, ok, no, then, manyAt}
+use Rattle.server.specs.Servers.{serverAt}
+use Rattle.server.specs.declared.item.Server.{Server}
+use Rattle.layout.specs.Layouts.{mirrorAt, mirrorsAt, padded, rows, startsOf}
+use Rattle.layout.specs.Starts.{setRows, withMirrors, withServers}
+
+-- ---- servers of one mirror
+
+pub servers-none : (n k : ℕ) (s : List ℕ) (at : ℕ) (t : List ℕ) → n ≡ 0 → withServers k (manyAt serverAt n s at) t ≡ ok t at
+unfolding withServers manyAt
+servers-none n k s at t h = rw h
+
+pub servers-refused : (n k : ℕ) (s : List ℕ) (at : ℕ) (t : List ℕ) (e : ℕ) → 0 < n → serverAt s at ≡ no e → withServers k (manyAt serverAt n s at) t ≡ no e
+unfolding withServers manyAt then
+servers-refused zero k s at t e h q = absurd (omega arith)
+servers-refused (suc n) k s at t e h q = rw q
+
+server-stored : (x : Res (List Server)) (k : ℕ) (t : List ℕ) (v : Server)
+    → withServers k (then x λ rest q. ok (v ∷ rest) q) t ≡ withServers (suc k) x (set t k (v .device))
+unfolding withServers then
+server-stored (ok rest q) k t v = refl
+server-stored (no n) k t v = refl
+
+pub servers-next : (n k : ℕ) (s : List ℕ) (at : ℕ) (t : List ℕ) (v : Server) (p : ℕ) → 0 < n → serverAt s at ≡ ok v p → v .device ≡ at
+    → withServers k (manyAt serverAt n s at) t ≡ withServers (k + 1) (manyAt serverAt (n - 1) s p) (set t k at)
+unfolding manyAt then
+servers-next zero k s at t v p h q d = absurd (omega arith)
+servers-next (suc n) k s at t v p h q d =
+    let f : suc n - 1 ≡ n = omega arith in
+    rw (q, f, add-one) (server-stored (manyAt serverAt n s p) k t v ∙ ap (λ (x : ℕ). withServers (suc k) (manyAt serverAt n s p) (set t k x)) d)
+
+-- ---- mirrors
+
+-- the servers of a mirror, then what follows from the place behind them
+pub row-read : (k : ℕ) (x : Res (List Server)) (y : ℕ → Res (List (List Server))) (t t' : List ℕ) (p : ℕ) → withServers k x t ≡ ok t' p
+    → withMirrors k (then x λ row p1. then (y p1) λ others p2. ok (row ∷ others) p2) t ≡ withMirrors (k + 16) (y p) t'
+unfolding withServers withMirrors setRows then
+row-read k (ok row q) y t t' p h =
+    let e : q ≡ p = cc in
+    let f : sets t k (map (λ v. v .device) row) ≡ t' = cc in
+    rw (← e, ← f) (go (y q))
+  where
+    go : (z : Res (List (List Server)))
+        → withMirrors k (then z λ others p2. ok (row ∷ others) p2) t ≡ withMirrors (k + 16) z (sets t k (map (λ v. v .device) row))
+    go (ok others p2) = refl
+    go (no n) = refl
+row-read k (no n) y t t' p h = let z : _≡_ {A = ℕ} 0 1 = cc in absurd (omega arith)
+
+pub row-refused : (k : ℕ) (x : Res (List Server)) (f : List Server → ℕ → Res (List (List Server))) (t : List ℕ) (n : ℕ) → withServers k x t ≡ no n
+    → withMirrors k (then x f) t ≡ no n
+unfolding withServers withMirrors then
+row-refused k (ok row q) f t n h = let z : _≡_ {A = ℕ} 0 1 = cc in absurd (omega arith)
+row-refused k (no m) f t n h = let e : m ≡ n = cc in rw e
+
+module _ (servers : ℕ) (s : List ℕ) where
+  pub mirrors-none : (n k at : ℕ) (t : List ℕ) → n ≡ 0 → withMirrors k (manyAt (mirrorAt servers) n s at) t ≡ ok t at
+  unfolding withMirrors setRows manyAt
+  mirrors-none n k at t h = rw h
+
+  pub mirrors-refused : (n k at : ℕ) (t : List ℕ) (e : ℕ) → 0 < n → withServers k (mirrorAt servers s at) t ≡ no e
+      → withMirrors k (manyAt (mirrorAt servers) n s at) t ≡ no e
+  unfolding manyAt
+  mirrors-refused zero k at t e h q = absurd (omega arith)
+  mirrors-refused (suc n) k at t e h q = row-refused k (mirrorAt servers s at) _ t e q
+
+  pub mirrors-next : (n k at : ℕ) (t t' : List ℕ) (p : ℕ) → 0 < n → withServers k (mirrorAt servers s at) t ≡ ok t' p
+      → withMirrors k (manyAt (mirrorAt servers) n s at) t ≡ withMirrors (k + 16) (manyAt (mirrorAt servers) (n - 1) s p) t'
+  unfolding manyAt
+  mirrors-next zero k at t t' p h q = absurd (omega arith)
+  mirrors-next (suc n) k at t t' p h q =
+      let f : suc n - 1 ≡ n = omega arith in
+      rw f (row-read k (mirrorAt servers s at) (λ p1. manyAt (mirrorAt servers) n s p1) t t' p q)

@@ -1,0 +1,133 @@
+-- `layout::body::read_layout` meets its contract: the length, then front, mirrors and tail, then nothing more.
+use Prim.Native.Nat.{ℕ, _≤_}
+use Rattle.layout.proofs.BodyLaws.{accepted-whole, all-read, fault-met, layout-parts, left-over, refused-whole, too-long}
+use Rattle.layout.proofs.FrontLaws.{front-read}
+use Rattle.layout.proofs.TableLaws.{mirrors-have, mirrors-read-too, mirrors-refused-too, starts-filled}
+use Rattle.layout.specs.Answers.{resFront, resTail, startsIn, whyFront, whyTail}
+use Rattle.layout.specs.Layouts.{layoutAt}
+use Rattle.layout.specs.Starts.{resStarts}
+use Rattle.server.specs.Answers.{whyEnd}
+use Rattle.server.specs.declared.handles.ReadEnd.{ReadEnd}
+use Rattle.xdr.proofs.Steps.{came, handed}
+use Rattle.xdr.specs.Res.{Res, no, then}
+use borrow.Author.Needs.{needs}
+use denote.Ref.{now}
+use lib.ListN.{length, replicate}
+use mathlib.Core.List.{List}
+use mathlib.Core.Path.{refl, sym, _∙_}
+use native.Mathlib.Omega.{arith}
+use Rattle.layout.proofs.body.read_layout.Statement.{statement}
+use Rattle.layout.proofs.body.read_layout.Tie as tie
+
+refused-requires : tie.Need-refused-requires
+refused-requires c κs = search needs
+
+returns : tie.Need-returns
+returns c = refused-whole _ _ _ _ (c .refused .ensures .0) (c .refused .ensures .1) (too-long (now (c .before .before .before .args .s)) (c .before .if1 .taken))
+
+read-front-requires : tie.Need-read-front-requires
+read-front-requires c κs = search needs
+
+enum-known-f : tie.Need-enum-known-f
+enum-known-f c = search needs
+
+enum-told : tie.Need-enum-told
+enum-told c = search needs
+
+why-front-requires : tie.Need-why-front-requires
+why-front-requires c κs = search needs
+
+refused-requires-2 : tie.Need-refused-requires-2
+refused-requires-2 c κs = search needs
+
+returns-2 : tie.Need-returns-2
+unfolding layoutAt then
+returns-2 c = refused-whole _ _ _ _ (c .refused2 .ensures .0) (c .refused2 .ensures .1) (fault-met (now (c .before .before .before .before .before .before .before .args .s)) _ (c .before .before .before .before .before .if1 .left) (rw (handed resFront whyFront no (c .before .before .before .before .read-front .ensures) (c .before .before .enum-told .given .1) (c .before .why-front .ensures) refl)))
+
+read-mirrors-requires : tie.Need-read-mirrors-requires
+read-mirrors-requires c κs =
+    let f = front-read (now (c .before .before .before .before .before .before .before .args .s)) 0 _ _ (came resFront (c .before .before .before .before .read-front .ensures) (c .before .before .f .given .1)) in
+    ((c .before .before .before .before .before .if1 .left), f .within, f .mirrors-few, f .servers-few)
+
+enum-known-m : tie.Need-enum-known-m
+enum-known-m c = search needs
+
+enum-told-2 : tie.Need-enum-told-2
+enum-told-2 c = search needs
+
+why-end-requires : tie.Need-why-end-requires
+why-end-requires c κs = search needs
+
+refused-requires-3 : tie.Need-refused-requires-3
+refused-requires-3 c κs = search needs
+
+returns-3 : tie.Need-returns-3
+unfolding layoutAt then
+returns-3 c =
+    let m = mirrors-refused-too 0 _ _ _ (handed (λ (r : ReadEnd). resStarts r (c .before .before .before .before .read-mirrors .last .1 .1 .1 .1 .0)) whyEnd no (c .before .before .before .before .read-mirrors .ensures) (c .before .before .enum-told2 .given .1) (c .before .why-end .ensures) refl) in
+    refused-whole _ _ _ _ (c .refused3 .ensures .0) (c .refused3 .ensures .1) (fault-met (now (c .before .before .before .before .before .before .before .before .before .before .before .before .args .s)) _ (c .before .before .before .before .before .before .before .before .before .before .if1 .left) (rw (came resFront (c .before .before .before .before .before .before .before .before .before .read-front .ensures) (c .before .before .before .before .before .before .before .f .given .1), m)))
+
+read-tail-requires : tie.Need-read-tail-requires
+read-tail-requires c κs = search needs
+
+enum-known-t : tie.Need-enum-known-t
+enum-known-t c = search needs
+
+enum-told-3 : tie.Need-enum-told-3
+enum-told-3 c = search needs
+
+why-tail-requires : tie.Need-why-tail-requires
+why-tail-requires c κs = search needs
+
+refused-requires-4 : tie.Need-refused-requires-4
+refused-requires-4 c κs = search needs
+
+returns-4 : tie.Need-returns-4
+unfolding layoutAt then
+returns-4 c =
+    let m = mirrors-read-too 0 _ _ _ _ (came (λ (r : ReadEnd). resStarts r (c .before .before .before .before .before .before .before .before .read-mirrors .last .1 .1 .1 .1 .0)) (c .before .before .before .before .before .before .before .before .read-mirrors .ensures) (c .before .before .before .before .before .before .m .given .1)) in
+    refused-whole _ _ _ _ (c .refused4 .ensures .0) (c .refused4 .ensures .1) (fault-met (now (c .before .before .before .before .before .before .before .before .before .before .before .before .before .before .before .before .args .s)) _ (c .before .before .before .before .before .before .before .before .before .before .before .before .before .before .if1 .left) (rw (came resFront (c .before .before .before .before .before .before .before .before .before .before .before .before .before .read-front .ensures) (c .before .before .before .before .before .before .before .before .before .before .before .f .given .1), m .read, handed resTail whyTail no (c .before .before .before .before .read-tail .ensures) (c .before .before .enum-told3 .given .1) (c .before .why-tail .ensures) refl)))
+
+refused-requires-5 : tie.Need-refused-requires-5
+refused-requires-5 c κs = search needs
+
+returns-5 : tie.Need-returns-5
+returns-5 c =
+    let m = mirrors-read-too 0 _ _ _ _ (came (λ (r : ReadEnd). resStarts r (c .before .before .before .before .before .before .before .before .before .before .read-mirrors .last .1 .1 .1 .1 .0)) (c .before .before .before .before .before .before .before .before .before .before .read-mirrors .ensures) (c .before .before .before .before .before .before .before .before .m .given .1)) in
+    refused-whole _ _ _ _ (c .refused5 .ensures .0) (c .refused5 .ensures .1) (left-over (now (c .before .before .before .before .before .before .before .before .before .before .before .before .before .before .before .before .before .before .args .s)) _ _ (c .before .before .before .before .before .before .before .before .before .before .before .before .before .before .before .before .if1 .left) (layout-parts (now (c .before .before .before .before .before .before .before .before .before .before .before .before .before .before .before .before .before .before .args .s)) _ _ _ _ _ _ (came resFront (c .before .before .before .before .before .before .before .before .before .before .before .before .before .before .before .read-front .ensures) (c .before .before .before .before .before .before .before .before .before .before .before .before .before .f .given .1)) (m .read) (came resTail (c .before .before .before .before .before .before .read-tail .ensures) (c .before .before .before .before .t .given .1))) (c .before .if2 .taken))
+
+returns-6 : tie.Need-returns-6
+returns-6 c =
+    let m = mirrors-read-too 0 _ _ _ _ (came (λ (r : ReadEnd). resStarts r (c .before .before .before .before .before .before .before .before .before .read-mirrors .last .1 .1 .1 .1 .0)) (c .before .before .before .before .before .before .before .before .before .read-mirrors .ensures) (c .before .before .before .before .before .before .before .m .given .1)) in
+    let f = front-read (now (c .before .before .before .before .before .before .before .before .before .before .before .before .before .before .before .before .before .args .s)) 0 _ _ (came resFront (c .before .before .before .before .before .before .before .before .before .before .before .before .before .before .read-front .ensures) (c .before .before .before .before .before .before .before .before .before .before .before .before .f .given .1)) in
+    let r = mirrors-have _ _ (now (c .before .before .before .before .before .before .before .before .before .before .before .before .before .before .before .before .before .args .s)) _ (m .mirrors) _ (f .mirrors-some) (m .read) in
+    let table = sym (starts-filled _ (m .mirrors) (f .servers-few) (r .each) (omega (arith, r .count, f .mirrors-few))) ∙ m .table in
+    accepted-whole _ _ _ _ table (all-read (now (c .before .before .before .before .before .before .before .before .before .before .before .before .before .before .before .before .before .args .s)) _ _ (c .before .before .before .before .before .before .before .before .before .before .before .before .before .before .before .if1 .left) (layout-parts (now (c .before .before .before .before .before .before .before .before .before .before .before .before .before .before .before .before .before .args .s)) _ _ _ _ _ _ (came resFront (c .before .before .before .before .before .before .before .before .before .before .before .before .before .before .read-front .ensures) (c .before .before .before .before .before .before .before .before .before .before .before .before .f .given .1)) (m .read) (came resTail (c .before .before .before .before .before .read-tail .ensures) (c .before .before .before .t .given .1))) (c .if2 .left))
+
+pub read-layout-spec : {M : Type 1} → statement M
+read-layout-spec =
+    tie.close
+    (tie.spec
+    refused-requires
+    returns
+    read-front-requires
+    enum-known-f
+    enum-told
+    why-front-requires
+    refused-requires-2
+    returns-2
+    read-mirrors-requires
+    enum-known-m
+    enum-told-2
+    why-end-requires
+    refused-requires-3
+    returns-3
+    read-tail-requires
+    enum-known-t
+    enum-told-3
+    why-tail-requires
+    refused-requires-4
+    returns-4
+    refused-requires-5
+    returns-5
+    returns-6)

@@ -1,0 +1,28 @@
+-- The table of starts as the loops fill it: what they read, stored from an index on.
+use Prim.Native.Nat.{ℕ, _+_}
+use mathlib.Core.List.{List, [], _∷_, map}
+use lib.Seq.{sets}
+use Rattle.base.specs.Refusals.{numberOf}
+use Rattle.xdr.specs.Res.{Res, ok, no}
+use Rattle.server.specs.declared.item.Server.{Server}
+use Rattle.server.specs.declared.handles.ReadEnd.{ReadEnd}
+use Rattle.server.specs.declared.handles.ReadEnd.the-variants.{Value, Refused}
+
+-- the table and the place behind what was read; a refusal says nothing of the table
+abbrev pub resStarts : ReadEnd → List ℕ → Res (List ℕ)
+resStarts (Value c) table = ok table (c .at)
+resStarts (Refused e) table = no (numberOf e)
+
+-- the starts of a mirror's servers from the index k on
+unfoldable pub withServers : ℕ → Res (List Server) → List ℕ → Res (List ℕ)
+withServers k (ok servers at) table = ok (sets table k (map (λ v. v .device) servers)) at
+withServers k (no n) table = no n
+
+-- each mirror 16 places behind the one before
+unfoldable pub setRows : List ℕ → ℕ → List (List Server) → List ℕ
+setRows table k [] = table
+setRows table k (m ∷ ms) = setRows (sets table k (map (λ v. v .device) m)) (k + 16) ms
+
+unfoldable pub withMirrors : ℕ → Res (List (List Server)) → List ℕ → Res (List ℕ)
+withMirrors k (ok mirrors at) table = ok (setRows table k mirrors) at
+withMirrors k (no n) table = no n

@@ -1,0 +1,78 @@
+// The layout body as a whole, with its summary.
+use crate::ends::ReadFront;
+use crate::ends::ReadTail;
+use crate::ends::read_front;
+use crate::ends::read_tail;
+use crate::ends::why_front;
+use crate::ends::why_tail;
+use crate::mirrors::read_mirrors;
+use base::Refusal;
+use server::ReadEnd;
+use xdr::Cursor;
+ghost use mathlib.Core.Path.{_≡_};
+ghost use lib.ListN.{replicate};
+ghost use Rattle.layout.specs.Layouts.{layoutBody};
+ghost use Rattle.layout.specs.Answers.{layoutAnswer, startsIn};
+
+pub struct Summary {
+    pub unit: u64,
+    pub mirrors: u32,
+    pub servers: u32,
+    pub flags: u32,
+    pub hint: u32,
+}
+
+pub enum LayoutAnswer {
+    Value(Summary),
+    Refused(Refusal),
+}
+
+// The start of a data server stands at 16 times its mirror and its stripe; 0 in unused places, and everywhere after a refusal.
+pub struct LayoutRead {
+    pub answer: LayoutAnswer,
+    pub starts: [u16; 128],
+}
+
+fn refused(e: Refusal) -> LayoutRead
+    ensures { λ r. ⌜ (r .answer ≡ LayoutAnswer.Refused e) × (r .starts ≡ replicate 128 0) ⌝ }
+{
+    LayoutRead {
+        answer: LayoutAnswer::Refused(e),
+        starts: [0u16; 128],
+    }
+}
+
+pub fn read_layout(s: &[u8]) -> LayoutRead
+    ensures { λ r. ⌜ (layoutAnswer (r .answer) (r .starts) ≡ layoutBody (now (s .entry)))
+        × (r .starts ≡ startsIn (layoutBody (now (s .entry)))) ⌝ }
+{
+    if 4090 < s.len() {
+        return refused(Refusal::OutsideLimit);
+    }
+    let f = read_front(s, Cursor { at: 0 });
+    let ReadFront::Value(front, c1) = f else {
+        return refused(why_front(f));
+    };
+    let mut starts = [0u16; 128];
+    let m = read_mirrors(s, c1, front.mirrors, front.servers, &mut starts);
+    let ReadEnd::Value(c2) = m else {
+        return refused(server::why_end(m));
+    };
+    let t = read_tail(s, c2);
+    let ReadTail::Value(tail, c3) = t else {
+        return refused(why_tail(t));
+    };
+    if c3.at != s.len() {
+        return refused(Refusal::BytesLeftOver);
+    }
+    LayoutRead {
+        answer: LayoutAnswer::Value(Summary {
+            unit: front.unit,
+            mirrors: front.mirrors,
+            servers: front.servers,
+            flags: tail.flags,
+            hint: tail.hint,
+        }),
+        starts,
+    }
+}
