@@ -1,7 +1,7 @@
 // Iomodes by their wire numbers.
 use crate::refusal::Refusal;
 ghost use mathlib.Core.Path.{_≡_};
-ghost use Rattle.base.specs.Iomodes.{answerOfIomode, iomodeOf, grantIomodeOf};
+ghost use Rattle.base.specs.Iomodes.{answerOfIomode, grantIomodeOf, iomodeOf, whyIomode};
 
 pub enum Iomode {
     Read,
@@ -34,5 +34,14 @@ pub fn grant_iomode(n: u32) -> ReadIomode
         1 => ReadIomode::Value(Iomode::Read),
         2 => ReadIomode::Value(Iomode::ReadWrite),
         _ => ReadIomode::Refused(Refusal::IomodeNotAllowed),
+    }
+}
+
+pub fn why_iomode(r: ReadIomode) -> Refusal
+    ensures { λ e. ⌜ e ≡ whyIomode r ⌝ }
+{
+    match r {
+        ReadIomode::Refused(e) => e,
+        ReadIomode::Value(_) => Refusal::IomodeNotAllowed,
     }
 }

@@ -7,9 +7,11 @@ pub use iomode::Iomode;
 pub use iomode::ReadIomode;
 pub use iomode::grant_iomode;
 pub use iomode::iomode_of;
+pub use iomode::why_iomode;
 pub use range::Last;
 pub use range::range_last;
 pub use range::request_last;
+pub use range::why_last;
 pub use refusal::Refusal;
 pub use refusal::number;
 

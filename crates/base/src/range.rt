@@ -1,7 +1,7 @@
 // The range rule and the I/O request rule, at full 64 bits: no sum is formed that could wrap.
 use crate::refusal::Refusal;
 ghost use mathlib.Core.Path.{_≡_};
-ghost use Rattle.base.specs.Ranges.{answerOfLast, rangeLast, requestLast};
+ghost use Rattle.base.specs.Ranges.{answerOfLast, rangeLast, requestLast, whyLast};
 
 // The last byte of a range or an I/O request.
 pub enum Last {
@@ -37,4 +37,13 @@ pub fn request_last(offset: u64, length: u64) -> Last
         return Last::Refused(Refusal::RangeInvalid);
     }
     Last::At(offset + (length - 1))
+}
+
+pub fn why_last(r: Last) -> Refusal
+    ensures { λ e. ⌜ e ≡ whyLast r ⌝ }
+{
+    match r {
+        Last::Refused(e) => e,
+        Last::At(_) => Refusal::RangeInvalid,
+    }
 }

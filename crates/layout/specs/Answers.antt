@@ -37,6 +37,10 @@ abbrev pub layoutAnswer : LayoutAnswer → List ℕ → Answer Layout
 layoutAnswer (layout.Value summary) starts = accepted (record { summary = summary; starts = starts })
 layoutAnswer (layout.Refused e) starts = refused (numberOf e)
 
+abbrev pub whyLayout : LayoutAnswer → Refusal
+whyLayout (layout.Value summary) = BytesRunOut
+whyLayout (layout.Refused e) = e
+
 -- the starts of an answer: 128 zeros after a refusal
 unfoldable pub startsIn : Answer Layout → List ℕ
 startsIn (accepted l) = l .starts

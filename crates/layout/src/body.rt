@@ -12,7 +12,7 @@ use xdr::Cursor;
 ghost use mathlib.Core.Path.{_≡_};
 ghost use lib.ListN.{replicate};
 ghost use Rattle.layout.specs.Layouts.{layoutBody};
-ghost use Rattle.layout.specs.Answers.{layoutAnswer, startsIn};
+ghost use Rattle.layout.specs.Answers.{layoutAnswer, startsIn, whyLayout};
 
 pub struct Summary {
     pub unit: u64,
@@ -74,5 +74,14 @@ pub fn read_layout(s: &[u8]) -> LayoutRead
             hint: tail.hint,
         }),
         starts,
+    }
+}
+
+pub fn why_layout(r: LayoutAnswer) -> Refusal
+    ensures { λ e. ⌜ e ≡ whyLayout r ⌝ }
+{
+    match r {
+        LayoutAnswer::Refused(e) => e,
+        LayoutAnswer::Value(_) => Refusal::BytesRunOut,
     }
 }

@@ -7,3 +7,4 @@ pub use body::LayoutAnswer;
 pub use body::LayoutRead;
 pub use body::Summary;
 pub use body::read_layout;
+pub use body::why_layout;

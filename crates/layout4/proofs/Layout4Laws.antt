@@ -1,0 +1,83 @@
+-- Laws of a whole layout4: each fault met on the way is the answer.
+use Prim.Native.Nat.{ℕ, _+_, _≤_}
+use mathlib.Core.Path.{_≡_, refl, sym, ap, _∙_}
+use mathlib.Core.Bool.{Bool, true, false}
+use mathlib.Core.List.{List}
+use native.Mathlib.Omega.{arith}
+use borrow.Author.Tests.{eq-eqb, leb-false, leb-true, ne-eqb}
+use lib.Dec.{leb}
+use lib.ListN.{length, replicate}
+use Rattle.base.specs.Answer.{Answer, accepted, refused, pick}
+use Rattle.base.specs.Refusals.{numberOf}
+use Rattle.base.specs.declared.refusal.Refusal.{Refusal}
+use Rattle.numbers.specs.Numbers.{bytesFrom}
+use Rattle.xdr.specs.Res.{Res, ok, no, then, inside, whole}
+use Rattle.xdr.specs.Items.{bytesAt, padding}
+use Rattle.xdr.specs.declared.Part.{Part}
+use Rattle.layout.specs.Layouts.{Layout, layoutBody}
+use Rattle.layout.specs.declared.body.Summary.{Summary}
+use Rattle.layout4.specs.Layout4s.{Whole, frameAt, layout4, layout4At}
+use Rattle.layout4.specs.Answers.{layout4Answer, startsIn}
+use Rattle.layout4.specs.declared.frame.Frame.{Frame}
+use Rattle.layout4.specs.declared.whole.Layout4.{Layout4}
+use Rattle.layout4.specs.declared.whole.Layout4Answer.{Layout4Answer}
+use Rattle.layout4.specs.declared.whole.Layout4Answer.the-variants.{Value, Refused}
+
+pub frame-refused : (s : List ℕ) (n : ℕ) → frameAt s 0 ≡ no n → layout4 s ≡ refused n
+unfolding layout4 layout4At then whole
+frame-refused s n e = rw e
+
+module _ (s : List ℕ) (frame : Frame) (p : ℕ) (framed : frameAt s 0 ≡ ok frame p) where
+  pub body-short : leb (p + frame .size + padding (frame .size)) (length s) ≡ false → layout4 s ≡ refused 1
+  unfolding layout4 layout4At then whole pick
+  body-short short = rw (framed, short)
+
+  module _ (there : leb (p + frame .size + padding (frame .size)) (length s) ≡ true) where
+    pub body-refused : (n : ℕ) → layoutBody (bytesFrom (frame .size) s p) ≡ refused n → layout4 s ≡ refused n
+    unfolding layout4 layout4At then whole pick inside
+    body-refused n e = rw (framed, there, e)
+
+    module _ (l : Layout) (body : layoutBody (bytesFrom (frame .size) s p) ≡ accepted l) where
+      pub padding-refused : (n : ℕ) → bytesAt (frame .size) s p ≡ no n → layout4 s ≡ refused n
+      unfolding layout4 layout4At then whole pick inside
+      padding-refused n e = rw (framed, there, body, e)
+
+      pub left-over : (place : Part) (q : ℕ) → bytesAt (frame .size) s p ≡ ok place q → (q ≡ length s → ⊥) → layout4 s ≡ refused 2
+      unfolding layout4 layout4At then whole pick inside
+      left-over place q e k = rw (framed, there, body, e, ne-eqb _ _ k)
+
+      pub all-read : (place : Part) (q : ℕ) → bytesAt (frame .size) s p ≡ ok place q → q ≡ length s
+          → layout4 s
+          ≡ accepted (record {
+            frame = record {
+              offset = frame .range .offset;
+              length = frame .range .length;
+              last = frame .range .last;
+              iomode = frame .iomode;
+              body = place;
+            };
+            body = l;
+          })
+      unfolding layout4 layout4At then whole pick inside
+      all-read place q e k = rw (framed, there, body, e, eq-eqb _ _ k)
+
+-- both parts of the reader's contract after a refusal
+pub refused-whole : (a : Layout4Answer) (t : List ℕ) (e : Refusal) (x : Answer Whole)
+    → a ≡ Refused e → t ≡ replicate 128 0 → x ≡ refused (numberOf e) → (layout4Answer a t ≡ x) × (t ≡ startsIn x)
+unfolding startsIn
+refused-whole a t e x h k q = (rw (h, q), rw (k, q))
+
+-- and where it is accepted
+pub accepted-whole : (l : Layout4) (b : Summary) (t : List ℕ) (x : Answer Whole)
+    → x ≡ accepted (record { frame = l; body = record { summary = b; starts = t } }) → (layout4Answer (Value l b) t ≡ x) × (t ≡ startsIn x)
+unfolding startsIn
+accepted-whole l b t x q = (rw q, rw q)
+
+-- two tests that hold together
+pub same-test : (a b c d : ℕ) → (a ≤ b → c ≤ d) → (c ≤ d → a ≤ b) → leb a b ≡ leb c d
+same-test a b c d f g = go (leb a b) (leb c d) refl refl where
+  go : (t u : Bool) → leb a b ≡ t → leb c d ≡ u → t ≡ u
+  go true true h k = refl
+  go false false h k = refl
+  go true false h k = absurd (omega (arith, f (leb-true a b h), leb-false c d k))
+  go false true h k = absurd (omega (arith, g (leb-true c d k), leb-false a b h))

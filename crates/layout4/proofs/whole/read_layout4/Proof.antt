@@ -1,0 +1,169 @@
+-- `layout4::whole::read_layout4` meets its contract: frame, body, padding, then nothing more.
+use Prim.Native.Nat.{ℕ, _+_, _-_, _≤_}
+use Rattle.base.specs.Answer.{refused}
+use Rattle.layout.specs.Answers.{layoutAnswer, whyLayout}
+use Rattle.layout.specs.declared.body.LayoutAnswer.{LayoutAnswer}
+use Rattle.layout4.proofs.Layout4Laws.{accepted-whole, all-read, body-refused, body-short, frame-refused, left-over, padding-refused, refused-whole}
+use Rattle.layout4.specs.Answers.{resFrame, whyFrame}
+use Rattle.xdr.proofs.Steps.{came, handed}
+use Rattle.xdr.specs.Answers.{resPart, whyPart}
+use Rattle.xdr.specs.Items.{padding}
+use Rattle.xdr.specs.Res.{no}
+use borrow.Author.Needs.{needs}
+use borrow.Author.Tests.{leb-true, not-false, not-true}
+use denote.Ref.{now}
+use lib.ListN.{length}
+use mathlib.Core.List.{List}
+use mathlib.Core.Path.{_≡_, refl, sym, _∙_}
+use native.Mathlib.Omega.{arith}
+use Rattle.layout4.proofs.whole.read_layout4.Statement.{statement}
+use Rattle.layout4.proofs.whole.read_layout4.Tie as tie
+
+read-frame-requires : tie.Need-read-frame-requires
+read-frame-requires c κs = search needs
+
+enum-known-f : tie.Need-enum-known-f
+enum-known-f c = search needs
+
+enum-told : tie.Need-enum-told
+enum-told c = search needs
+
+why-frame-requires : tie.Need-why-frame-requires
+why-frame-requires c κs = search needs
+
+refused-requires : tie.Need-refused-requires
+refused-requires c κs = search needs
+
+returns : tie.Need-returns
+returns c = refused-whole _ _ _ _ (c .refused .ensures .0) (c .refused .ensures .1) (frame-refused (now (c .before .before .before .before .before .before .args .s)) _ (handed resFrame whyFrame no (c .before .before .before .before .read-frame .ensures) (c .before .before .enum-told .given .1) (c .before .why-frame .ensures) refl))
+
+enough-requires : tie.Need-enough-requires
+enough-requires c κs = search needs
+
+refused-requires-2 : tie.Need-refused-requires-2
+refused-requires-2 c κs = search needs
+
+returns-2 : tie.Need-returns-2
+returns-2 c = refused-whole _ _ _ _ (c .refused2 .ensures .0) (c .refused2 .ensures .1) (body-short (now (c .before .before .before .before .before .before .before .before .args .s)) _ _ (came resFrame (c .before .before .before .before .before .before .read-frame .ensures) (c .before .before .before .before .f .given .1)) (sym (c .before .before .enough .ensures) ∙ not-true _ (c .before .if1 .taken)))
+
+cast-end : tie.Need-cast-end
+cast-end c = search needs
+
+add-end : tie.Need-add-end
+add-end c =
+    let at = c .before .before .before .before .f .given .0 .1 .0 .at in
+    let size = c .before .before .before .before .f .given .0 .0 .size in
+    let h : at + size + padding size ≤ length (now (c .before .before .before .before .before .before .before .before .args .s)) = leb-true _ _ (sym (c .before .before .enough .ensures) ∙ not-false _ (c .before .if1 .left)) in
+    omega arith
+
+sub-read-layout : tie.Need-sub-read-layout
+sub-read-layout c = search needs
+
+part-read-layout-start : tie.Need-part-read-layout-start
+part-read-layout-start c = search needs
+
+part-read-layout-end : tie.Need-part-read-layout-end
+part-read-layout-end c =
+    let at = c .before .before .before .before .f .given .0 .1 .0 .at in
+    let size = c .before .before .before .before .f .given .0 .0 .size in
+    let h : at + size + padding size ≤ length (now (c .before .before .before .before .before .before .before .before .args .s)) = leb-true _ _ (sym (c .before .before .enough .ensures) ∙ not-false _ (c .before .if1 .left)) in
+    omega arith
+
+read-layout-requires : tie.Need-read-layout-requires
+read-layout-requires c κs = search needs
+
+enum-known-a : tie.Need-enum-known-a
+enum-known-a c = search needs
+
+enum-told-2 : tie.Need-enum-told-2
+enum-told-2 c = search needs
+
+why-layout-requires : tie.Need-why-layout-requires
+why-layout-requires c κs = search needs
+
+refused-requires-3 : tie.Need-refused-requires-3
+refused-requires-3 c κs = search needs
+
+returns-3 : tie.Need-returns-3
+returns-3 c =
+    let size = c .before .before .before .before .before .before .before .before .before .before .f .given .0 .0 .size in
+    let e : c .before .before .before .before .before .before .before .before .before .before .f .given .0 .1 .0 .at + size - c .before .before .before .before .before .before .before .before .before .before .f .given .0 .1 .0 .at ≡ size = omega arith in
+    let read = rw e at (c .before .before .before .before .read-layout .ensures .0) in
+    refused-whole _ _ _ _ (c .refused3 .ensures .0) (c .refused3 .ensures .1) (body-refused (now (c .before .before .before .before .before .before .before .before .before .before .before .before .before .before .args .s)) _ _ (came resFrame (c .before .before .before .before .before .before .before .before .before .before .before .before .read-frame .ensures) (c .before .before .before .before .before .before .before .before .before .before .f .given .1)) (sym (c .before .before .before .before .before .before .before .before .enough .ensures) ∙ not-false _ (c .before .before .before .before .before .before .before .if1 .left)) _ (handed (λ (r : LayoutAnswer). layoutAnswer r (c .before .before .before .before .read-layout .result .starts)) whyLayout refused read (c .before .before .enum-told2 .given .1) (c .before .why-layout .ensures) refl))
+
+cast-read-bytes : tie.Need-cast-read-bytes
+cast-read-bytes c = search needs
+
+read-bytes-requires : tie.Need-read-bytes-requires
+read-bytes-requires c κs = search needs
+
+enum-known-p : tie.Need-enum-known-p
+enum-known-p c = search needs
+
+enum-told-3 : tie.Need-enum-told-3
+enum-told-3 c = search needs
+
+why-part-requires : tie.Need-why-part-requires
+why-part-requires c κs = search needs
+
+refused-requires-4 : tie.Need-refused-requires-4
+refused-requires-4 c κs = search needs
+
+returns-4 : tie.Need-returns-4
+returns-4 c =
+    let size = c .before .before .before .before .before .before .before .before .before .before .before .before .before .before .before .f .given .0 .0 .size in
+    let e : c .before .before .before .before .before .before .before .before .before .before .before .before .before .before .before .f .given .0 .1 .0 .at + size - c .before .before .before .before .before .before .before .before .before .before .before .before .before .before .before .f .given .0 .1 .0 .at ≡ size = omega arith in
+    let read = rw e at (c .before .before .before .before .before .before .before .before .before .read-layout .ensures .0) in
+    refused-whole _ _ _ _ (c .refused4 .ensures .0) (c .refused4 .ensures .1) (padding-refused (now (c .before .before .before .before .before .before .before .before .before .before .before .before .before .before .before .before .before .before .before .args .s)) _ _ (came resFrame (c .before .before .before .before .before .before .before .before .before .before .before .before .before .before .before .before .before .read-frame .ensures) (c .before .before .before .before .before .before .before .before .before .before .before .before .before .before .before .f .given .1)) (sym (c .before .before .before .before .before .before .before .before .before .before .before .before .before .enough .ensures) ∙ not-false _ (c .before .before .before .before .before .before .before .before .before .before .before .before .if1 .left)) _ (came (λ (r : LayoutAnswer). layoutAnswer r (c .before .before .before .before .before .before .before .before .before .read-layout .result .starts)) read (c .before .before .before .before .before .before .before .a .given .1)) _ (handed resPart whyPart no (c .before .before .before .before .read-bytes .ensures) (c .before .before .enum-told3 .given .1) (c .before .why-part .ensures) refl))
+
+refused-requires-5 : tie.Need-refused-requires-5
+refused-requires-5 c κs = search needs
+
+returns-5 : tie.Need-returns-5
+returns-5 c =
+    let size = c .before .before .before .before .before .before .before .before .before .before .before .before .before .before .before .before .before .f .given .0 .0 .size in
+    let e : c .before .before .before .before .before .before .before .before .before .before .before .before .before .before .before .before .before .f .given .0 .1 .0 .at + size - c .before .before .before .before .before .before .before .before .before .before .before .before .before .before .before .before .before .f .given .0 .1 .0 .at ≡ size = omega arith in
+    let read = rw e at (c .before .before .before .before .before .before .before .before .before .before .before .read-layout .ensures .0) in
+    refused-whole _ _ _ _ (c .refused5 .ensures .0) (c .refused5 .ensures .1) (left-over (now (c .before .before .before .before .before .before .before .before .before .before .before .before .before .before .before .before .before .before .before .before .before .args .s)) _ _ (came resFrame (c .before .before .before .before .before .before .before .before .before .before .before .before .before .before .before .before .before .before .before .read-frame .ensures) (c .before .before .before .before .before .before .before .before .before .before .before .before .before .before .before .before .before .f .given .1)) (sym (c .before .before .before .before .before .before .before .before .before .before .before .before .before .before .before .enough .ensures) ∙ not-false _ (c .before .before .before .before .before .before .before .before .before .before .before .before .before .before .if1 .left)) _ (came (λ (r : LayoutAnswer). layoutAnswer r (c .before .before .before .before .before .before .before .before .before .before .before .read-layout .result .starts)) read (c .before .before .before .before .before .before .before .before .before .a .given .1)) _ _ (came resPart (c .before .before .before .before .before .before .read-bytes .ensures) (c .before .before .before .before .p .given .1)) (c .before .if2 .taken))
+
+returns-6 : tie.Need-returns-6
+returns-6 c =
+    let size = c .before .before .before .before .before .before .before .before .before .before .before .before .before .before .before .before .before .before .f .given .0 .0 .size in
+    let e : c .before .before .before .before .before .before .before .before .before .before .before .before .before .before .before .before .before .before .f .given .0 .1 .0 .at + size - c .before .before .before .before .before .before .before .before .before .before .before .before .before .before .before .before .before .before .f .given .0 .1 .0 .at ≡ size = omega arith in
+    let read = rw e at (c .before .before .before .before .before .before .before .before .before .before .before .before .read-layout .ensures .0) in
+    accepted-whole _ _ _ _ (all-read (now (c .before .before .before .before .before .before .before .before .before .before .before .before .before .before .before .before .before .before .before .before .before .before .args .s)) _ _ (came resFrame (c .before .before .before .before .before .before .before .before .before .before .before .before .before .before .before .before .before .before .before .before .read-frame .ensures) (c .before .before .before .before .before .before .before .before .before .before .before .before .before .before .before .before .before .before .f .given .1)) (sym (c .before .before .before .before .before .before .before .before .before .before .before .before .before .before .before .before .enough .ensures) ∙ not-false _ (c .before .before .before .before .before .before .before .before .before .before .before .before .before .before .before .if1 .left)) _ (came (λ (r : LayoutAnswer). layoutAnswer r (c .before .before .before .before .before .before .before .before .before .before .before .before .read-layout .result .starts)) read (c .before .before .before .before .before .before .before .before .before .before .a .given .1)) _ _ (came resPart (c .before .before .before .before .before .before .before .read-bytes .ensures) (c .before .before .before .before .before .p .given .1)) (c .before .before .if2 .left))
+
+pub read-layout4-spec : {M : Type 1} → statement M
+read-layout4-spec =
+    tie.close
+    (tie.spec
+    read-frame-requires
+    enum-known-f
+    enum-told
+    why-frame-requires
+    refused-requires
+    returns
+    enough-requires
+    refused-requires-2
+    returns-2
+    cast-end
+    add-end
+    sub-read-layout
+    part-read-layout-start
+    part-read-layout-end
+    read-layout-requires
+    enum-known-a
+    enum-told-2
+    why-layout-requires
+    refused-requires-3
+    returns-3
+    cast-read-bytes
+    read-bytes-requires
+    enum-known-p
+    enum-told-3
+    why-part-requires
+    refused-requires-4
+    returns-4
+    refused-requires-5
+    returns-5
+    returns-6)

@@ -1,0 +1,43 @@
+-- What the answers of the layout4's readers say.
+use Prim.Native.Nat.{ℕ}
+use mathlib.Core.List.{List}
+use lib.ListN.{replicate}
+use Rattle.base.specs.Answer.{Answer, accepted, refused}
+use Rattle.base.specs.Refusals.{numberOf}
+use Rattle.base.specs.declared.refusal.Refusal.{Refusal}
+use Rattle.base.specs.declared.refusal.Refusal.the-variants.{BytesRunOut}
+use Rattle.xdr.specs.Res.{Res, ok, no}
+use Rattle.layout4.specs.Layout4s.{Whole}
+use Rattle.layout4.specs.declared.frame.Range.{Range}
+use Rattle.layout4.specs.declared.frame.ReadRange.{ReadRange}
+use Rattle.layout4.specs.declared.frame.ReadRange.the-variants as range
+use Rattle.layout4.specs.declared.frame.Frame.{Frame}
+use Rattle.layout4.specs.declared.frame.ReadFrame.{ReadFrame}
+use Rattle.layout4.specs.declared.frame.ReadFrame.the-variants as frame
+use Rattle.layout4.specs.declared.whole.Layout4Answer.{Layout4Answer}
+use Rattle.layout4.specs.declared.whole.Layout4Answer.the-variants as layout4
+
+abbrev pub resRange : ReadRange → Res Range
+resRange (range.Value v c) = ok v (c .at)
+resRange (range.Refused e) = no (numberOf e)
+
+abbrev pub whyRange : ReadRange → Refusal
+whyRange (range.Value v c) = BytesRunOut
+whyRange (range.Refused e) = e
+
+abbrev pub resFrame : ReadFrame → Res Frame
+resFrame (frame.Value v c) = ok v (c .at)
+resFrame (frame.Refused e) = no (numberOf e)
+
+abbrev pub whyFrame : ReadFrame → Refusal
+whyFrame (frame.Value v c) = BytesRunOut
+whyFrame (frame.Refused e) = e
+
+abbrev pub layout4Answer : Layout4Answer → List ℕ → Answer Whole
+layout4Answer (layout4.Value l summary) starts = accepted (record { frame = l; body = record { summary = summary; starts = starts } })
+layout4Answer (layout4.Refused e) starts = refused (numberOf e)
+
+-- the starts of an answer: 128 zeros after a refusal
+unfoldable pub startsIn : Answer Whole → List ℕ
+startsIn (accepted w) = w .body .starts
+startsIn (refused n) = replicate 128 0

@@ -1,0 +1,61 @@
+-- "layout4: offset (8), length (8), iomode (4), layout type (4, must be 4), body length (4), body."
+use Prim.Native.Nat.{ℕ, _+_}
+use mathlib.Core.List.{List}
+use lib.ListN.{length}
+use lib.Dec.{leb, eqb}
+use Rattle.base.specs.Answer.{Answer, pick}
+use Rattle.base.specs.Iomodes.{grantIomodeOf}
+use Rattle.base.specs.Ranges.{rangeLast}
+use Rattle.numbers.specs.Numbers.{bytesFrom}
+use Rattle.xdr.specs.Res.{Res, ok, no, then, inside, whole}
+use Rattle.xdr.specs.Items.{bytesAt, countAt, numAt, padding}
+use Rattle.layout.specs.Layouts.{Layout, layoutBody}
+use Rattle.layout4.specs.declared.frame.Range.{Range}
+use Rattle.layout4.specs.declared.frame.Frame.{Frame}
+use Rattle.layout4.specs.declared.whole.Layout4.{Layout4}
+
+-- "Length is checked before iomode": the range is judged when both its numbers are read
+unfoldable pub rangeAt : List ℕ → ℕ → Res Range
+rangeAt s at =
+    then (numAt 8 s at) λ offset p1.
+    then (numAt 8 s p1) λ len p2.
+    then (inside (rangeLast offset len) p2) λ last p3.
+    ok (record { offset = offset; length = len; last = last }) p3
+
+-- "A body length above 4,090 is refused as 8"
+unfoldable pub frameAt : List ℕ → ℕ → Res Frame
+frameAt s at =
+    then (rangeAt s at) λ range p1.
+    then (numAt 4 s p1) λ number p2.
+    then (inside (grantIomodeOf number) p2) λ iomode p3.
+    then (numAt 4 s p3) λ kind p4.
+    pick (eqb kind 4) (then (countAt 0 4090 s p4) λ size p5. ok (record { range = range; iomode = iomode; size = size }) p5) (no 4)
+
+-- a layout4 and the summary of its body
+pub record Whole : Type 0 where
+  pub frame : Layout4
+  pub body : Layout
+
+-- "one that with its padding is longer than the bytes left as 1. The body must fill its length exactly": the body is the item's value, so it
+-- is judged between its bytes and its padding
+unfoldable pub layout4At : List ℕ → Res Whole
+layout4At s =
+    then (frameAt s 0) λ frame p1.
+    pick (leb (p1 + frame .size + padding (frame .size)) (length s))
+    (then (inside (layoutBody (bytesFrom (frame .size) s p1)) p1) λ body p2.
+    then (bytesAt (frame .size) s p2) λ place p3.
+    ok (record {
+      frame = record {
+        offset = frame .range .offset;
+        length = frame .range .length;
+        last = frame .range .last;
+        iomode = frame .iomode;
+        body = place;
+      };
+      body = body;
+    }) p3)
+    (no 1)
+
+-- "and nothing follows"
+unfoldable pub layout4 : List ℕ → Answer Whole
+layout4 s = whole s (layout4At s)

@@ -1,0 +1,2 @@
+pub mod Layout4s
+pub mod Answers

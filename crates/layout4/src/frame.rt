@@ -1,0 +1,113 @@
+// What stands before the body of a layout4.
+use base::Iomode;
+use base::Last;
+use base::ReadIomode;
+use base::Refusal;
+use xdr::Cursor;
+use xdr::ReadU32;
+use xdr::ReadU64;
+ghost use mathlib.Core.Path.{_≡_};
+ghost use Rattle.layout4.specs.Layout4s.{frameAt, rangeAt};
+ghost use Rattle.layout4.specs.Answers.{resFrame, resRange, whyFrame, whyRange};
+
+// Offset and length as on the wire, and the last byte.
+pub struct Range {
+    pub offset: u64,
+    pub length: u64,
+    pub last: u64,
+}
+
+pub enum ReadRange {
+    Value(Range, Cursor),
+    Refused(Refusal),
+}
+
+pub struct Frame {
+    pub range: Range,
+    pub iomode: Iomode,
+    pub size: u32,
+}
+
+pub enum ReadFrame {
+    Value(Frame, Cursor),
+    Refused(Refusal),
+}
+
+pub fn read_range(s: &[u8], c: Cursor) -> ReadRange
+    ensures { λ r. ⌜ resRange r ≡ rangeAt (now (s .entry)) (c .at) ⌝ }
+{
+    let o = xdr::read_u64(s, c);
+    let ReadU64::Value(offset, c1) = o else {
+        return ReadRange::Refused(xdr::why_u64(o));
+    };
+    let n = xdr::read_u64(s, c1);
+    let ReadU64::Value(length, c2) = n else {
+        return ReadRange::Refused(xdr::why_u64(n));
+    };
+    let e = base::range_last(offset, length);
+    let Last::At(last) = e else {
+        return ReadRange::Refused(base::why_last(e));
+    };
+    ReadRange::Value(
+        Range {
+            offset,
+            length,
+            last,
+        },
+        c2,
+    )
+}
+
+pub fn read_frame(s: &[u8], c: Cursor) -> ReadFrame
+    ensures { λ r. ⌜ resFrame r ≡ frameAt (now (s .entry)) (c .at) ⌝ }
+{
+    let a = read_range(s, c);
+    let ReadRange::Value(range, c1) = a else {
+        return ReadFrame::Refused(why_range(a));
+    };
+    let m = xdr::read_u32(s, c1);
+    let ReadU32::Value(number, c2) = m else {
+        return ReadFrame::Refused(xdr::why_u32(m));
+    };
+    let g = base::grant_iomode(number);
+    let ReadIomode::Value(iomode) = g else {
+        return ReadFrame::Refused(base::why_iomode(g));
+    };
+    let t = xdr::read_u32(s, c2);
+    let ReadU32::Value(kind, c3) = t else {
+        return ReadFrame::Refused(xdr::why_u32(t));
+    };
+    if kind != 4 {
+        return ReadFrame::Refused(Refusal::LayoutTypeUnknown);
+    }
+    let n = xdr::read_count(s, c3, 0, 4090);
+    let ReadU32::Value(size, c4) = n else {
+        return ReadFrame::Refused(xdr::why_u32(n));
+    };
+    ReadFrame::Value(
+        Frame {
+            range,
+            iomode,
+            size,
+        },
+        c4,
+    )
+}
+
+pub fn why_range(r: ReadRange) -> Refusal
+    ensures { λ e. ⌜ e ≡ whyRange r ⌝ }
+{
+    match r {
+        ReadRange::Refused(e) => e,
+        ReadRange::Value(_, _) => Refusal::BytesRunOut,
+    }
+}
+
+pub fn why_frame(r: ReadFrame) -> Refusal
+    ensures { λ e. ⌜ e ≡ whyFrame r ⌝ }
+{
+    match r {
+        ReadFrame::Refused(e) => e,
+        ReadFrame::Value(_, _) => Refusal::BytesRunOut,
+    }
+}

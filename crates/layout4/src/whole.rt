@@ -1,0 +1,102 @@
+// A layout4 as a whole. Its body is read in its own length, so that a fault in it comes before its padding.
+use crate::frame::ReadFrame;
+use crate::frame::read_frame;
+use crate::frame::why_frame;
+use base::Iomode;
+use base::Refusal;
+use layout::LayoutAnswer;
+use layout::Summary;
+use xdr::Cursor;
+use xdr::Part;
+use xdr::ReadPart;
+ghost use mathlib.Core.Path.{_≡_};
+ghost use Prim.Native.Nat.{_+_};
+ghost use lib.Dec.{leb};
+ghost use lib.ListN.{length, replicate};
+ghost use Rattle.xdr.specs.Items.{padding};
+ghost use Rattle.layout4.specs.Layout4s.{layout4};
+ghost use Rattle.layout4.specs.Answers.{layout4Answer, startsIn};
+
+// Offset and length as on the wire, the last byte, and where the body stands.
+pub struct Layout4 {
+    pub offset: u64,
+    pub length: u64,
+    pub last: u64,
+    pub iomode: Iomode,
+    pub body: Part,
+}
+
+pub enum Layout4Answer {
+    Value(Layout4, Summary),
+    Refused(Refusal),
+}
+
+// The starts are the body's, counted from its first byte; all 0 after a refusal.
+pub struct Layout4Read {
+    pub answer: Layout4Answer,
+    pub starts: [u16; 128],
+}
+
+fn refused(e: Refusal) -> Layout4Read
+    ensures { λ r. ⌜ (r .answer ≡ Layout4Answer.Refused e) × (r .starts ≡ replicate 128 0) ⌝ }
+{
+    Layout4Read {
+        answer: Layout4Answer::Refused(e),
+        starts: [0u16; 128],
+    }
+}
+
+// Whether n bytes and their padding stand at a place.
+fn enough(s: &[u8], at: usize, n: u32) -> bool
+    ensures { λ r. ⌜ r ≡ leb (at + n + padding n) (length (now (s .entry))) ⌝ }
+{
+    let k = n as usize;
+    let pad = (4 - k % 4) % 4;
+    if s.len() < at {
+        return false;
+    }
+    k + pad <= s.len() - at
+}
+
+pub fn read_layout4(s: &[u8]) -> Layout4Read
+    ensures { λ r. ⌜ (layout4Answer (r .answer) (r .starts) ≡ layout4 (now (s .entry)))
+        × (r .starts ≡ startsIn (layout4 (now (s .entry)))) ⌝ }
+{
+    let f = read_frame(s, Cursor { at: 0 });
+    let ReadFrame::Value(frame, c1) = f else {
+        return refused(why_frame(f));
+    };
+    let at = c1.at;
+    if !enough(s, at, frame.size) {
+        return refused(Refusal::BytesRunOut);
+    }
+    let end = at + frame.size as usize;
+    let body = layout::read_layout(&s[at..end]);
+    let a = body.answer;
+    let LayoutAnswer::Value(summary) = a else {
+        return refused(layout::why_layout(a));
+    };
+    let p = xdr::read_bytes(s, c1, frame.size as usize);
+    let ReadPart::Value(part, c2) = p else {
+        return refused(xdr::why_part(p));
+    };
+    if c2.at != s.len() {
+        return refused(Refusal::BytesLeftOver);
+    }
+    let starts = body.starts;
+    let range = frame.range;
+    let iomode = frame.iomode;
+    Layout4Read {
+        answer: Layout4Answer::Value(
+            Layout4 {
+                offset: range.offset,
+                length: range.length,
+                last: range.last,
+                iomode,
+                body: part,
+            },
+            summary,
+        ),
+        starts,
+    }
+}
