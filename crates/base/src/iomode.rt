@@ -30,11 +30,10 @@ pub fn iomode_of(n: u32) -> ReadIomode
 pub fn grant_iomode(n: u32) -> ReadIomode
     ensures { λ r. ⌜ answerOfIomode r ≡ grantIomodeOf n ⌝ }
 {
-    match n {
-        1 => ReadIomode::Value(Iomode::Read),
-        2 => ReadIomode::Value(Iomode::ReadWrite),
-        _ => ReadIomode::Refused(Refusal::IomodeNotAllowed),
+    if n == 3 {
+        return ReadIomode::Refused(Refusal::IomodeNotAllowed);
     }
+    iomode_of(n)
 }
 
 pub fn why_iomode(r: ReadIomode) -> Refusal

@@ -1,15 +1,15 @@
 -- Laws of the table of starts as the loops fill it.
-use Prim.Native.Nat.{ℕ, zero, suc, _+_, _-_, _*_, _≤_, _<_}
+use Prim.Native.Nat.{ℕ, zero, suc, _+_, _-_, _<_}
 use mathlib.Core.Path.{_≡_, refl, sym, ap, _∙_}
-use mathlib.Core.List.{List, [], _∷_, _++_, map}
+use mathlib.Core.List.{List, [], _∷_, map}
 use native.Mathlib.Numerals.{add-one}
 use native.Mathlib.Omega.{arith}
-use lib.ListN.{length, set, replicate}
+use lib.ListN.{set}
 use lib.Seq.{sets}
 use Rattle.xdr.specs.Res.{Res, ok, no, then, manyAt}
 use Rattle.server.specs.Servers.{serverAt}
 use Rattle.server.specs.declared.item.Server.{Server}
-use Rattle.layout.specs.Layouts.{mirrorAt, mirrorsAt, padded, rows, startsOf}
+use Rattle.layout.specs.Layouts.{mirrorAt}
 use Rattle.layout.specs.Starts.{setRows, withMirrors, withServers}
 
 -- ---- servers of one mirror

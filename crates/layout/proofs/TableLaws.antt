@@ -5,11 +5,12 @@ use mathlib.Core.List.{List, [], _∷_, _++_, map, append-assoc}
 use native.Mathlib.Omega.{arith}
 use lib.ListN.{length, drop, take, replicate, length-append, length-map, length-replicate, replicate-append-replicate}
 use lib.Seq.{sets, sets-eq, take-append-seam, drop-append-add}
+use Rattle.base.specs.Lists.{padded}
 use Rattle.xdr.specs.Res.{Res, ok, no, then, manyAt}
 use Rattle.xdr.proofs.Accepted.{never, passed, ran, same-value}
 use Rattle.server.specs.Servers.{serverAt}
 use Rattle.server.specs.declared.item.Server.{Server}
-use Rattle.layout.specs.Layouts.{mirrorAt, mirrorsAt, padded, rows, startsOf}
+use Rattle.layout.specs.Layouts.{mirrorAt, mirrorsAt, rows, startsOf}
 use Rattle.layout.specs.Starts.{setRows, withMirrors}
 
 -- ---- lengths

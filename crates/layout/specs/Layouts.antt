@@ -1,10 +1,11 @@
 -- "Layout body: stripe unit (8); mirror count (4) and mirrors; flags (4); statistics hint (4, any). A mirror: server count (4) and servers."
-use Prim.Native.Nat.{ℕ, _-_, _+_}
+use Prim.Native.Nat.{ℕ, _-_}
 use mathlib.Core.Bool.{Bool}
 use mathlib.Core.List.{List, [], _∷_, _++_, map}
-use lib.ListN.{length, replicate}
+use lib.ListN.{length}
 use lib.Dec.{leb, eqb}
 use Rattle.base.specs.Answer.{Answer, refused, pick}
+use Rattle.base.specs.Lists.{padded}
 use Rattle.xdr.specs.Res.{Res, ok, no, then, manyAt, whole}
 use Rattle.xdr.specs.Items.{countAt, numAt}
 use Rattle.server.specs.Servers.{serverAt}
@@ -41,10 +42,6 @@ unfoldable pub tailAt : List ℕ → ℕ → Res Tail
 tailAt s at =
     then (numAt 4 s at) λ flags p1.
     pick (leb flags 15) (then (numAt 4 s p1) λ hint p2. ok (record { flags = flags; hint = hint }) p2) (no 11)
-
--- a list made n long by further x
-unfoldable pub padded : {A : Type 0} → ℕ → A → List A → List A
-padded n x l = l ++ replicate (n - length l) x
 
 -- 16 places a mirror: where each of its servers starts, then zeros
 unfoldable pub rows : List (List Server) → List ℕ

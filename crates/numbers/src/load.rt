@@ -67,5 +67,5 @@ pub fn le8(s: &[u8], at: usize) -> u64
     }
     let low = le4(s, at) as u64;
     let high = le4(s, at + 4) as u64;
-    high * 4294967296 + low
+    low + high * 4294967296
 }
