@@ -1,4 +1,5 @@
 pub mod BodyLaws
 pub mod FrontLaws
+pub mod LayoutLaws
 pub mod StartLaws
 pub mod TableLaws

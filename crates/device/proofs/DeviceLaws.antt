@@ -1,0 +1,52 @@
+-- Laws of the device body: how each fault, met front to back, settles it.
+use Prim.Native.Nat.{ℕ, _+_, _≤_, _<_}
+use mathlib.Core.Path.{_≡_, ap}
+use mathlib.Core.List.{List}
+use native.Mathlib.Omega.{arith}
+use borrow.Author.Tests.{le-leb, lt-leb, eq-eqb, ne-eqb}
+use lib.ListN.{length}
+use Rattle.base.specs.Answer.{accepted, refused, pick}
+use Rattle.xdr.specs.Res.{ok, no, then, whole}
+use Rattle.xdr.specs.Items.{opaqueAt}
+use Rattle.xdr.specs.declared.Part.{Part}
+use Rattle.xdr.proofs.Accepted.{opaque-read}
+use Rattle.device.specs.Addresses.{addressAt, blankAddress}
+use Rattle.device.specs.Versions.{versionAt, blankVersion}
+use Rattle.device.specs.Bodies.{Listed, listAt, deviceAt, deviceBody}
+use Rattle.device.specs.declared.address.Address.{Address}
+use Rattle.device.specs.declared.version.Version.{Version}
+
+-- the bytes of an item stand inside the body
+pub part-within : (lo hi : ℕ) (s : List ℕ) (at : ℕ) (v : Part) (p : ℕ) → opaqueAt lo hi s at ≡ ok v p → v .start + v .len ≤ length s
+part-within lo hi s at v p h =
+    let b = opaque-read lo hi s at v p h .bytes in
+    let e : v .start ≡ at + 4 = ap (λ (x : Part). x .start) (b .value) in
+    omega (arith, b .end, b .within)
+
+-- ---- the faults, front to back
+
+pub body-too-long : (s : List ℕ) → 2048 < length s → deviceBody s ≡ refused 8
+unfolding deviceBody pick
+body-too-long s h = rw (lt-leb (length s) 2048 h)
+
+module _ (s : List ℕ) (h : length s ≤ 2048) where
+  pub addresses-refused : (k : ℕ) → listAt addressAt blankAddress s 0 ≡ no k → deviceBody s ≡ refused k
+  unfolding deviceBody deviceAt then whole pick
+  addresses-refused k e = rw (le-leb (length s) 2048 h, e)
+
+  pub versions-refused : (a : Listed Address) (p k : ℕ) → listAt addressAt blankAddress s 0 ≡ ok a p → listAt versionAt blankVersion s p ≡ no k
+      → deviceBody s ≡ refused k
+  unfolding deviceBody deviceAt then whole pick
+  versions-refused a p k e f = rw (le-leb (length s) 2048 h, e, f)
+
+  pub bytes-left-over : (a : Listed Address) (v : Listed Version) (p q : ℕ)
+      → listAt addressAt blankAddress s 0 ≡ ok a p → listAt versionAt blankVersion s p ≡ ok v q → (q ≡ length s → ⊥)
+      → deviceBody s ≡ refused 2
+  unfolding deviceBody deviceAt then whole pick
+  bytes-left-over a v p q e f n = rw (le-leb (length s) 2048 h, e, f, ne-eqb q (length s) n)
+
+  pub body-accepted : (a : Listed Address) (v : Listed Version) (p q : ℕ)
+      → listAt addressAt blankAddress s 0 ≡ ok a p → listAt versionAt blankVersion s p ≡ ok v q → q ≡ length s
+      → deviceBody s ≡ accepted (record { addressCount = a .count; addresses = a .places; versionCount = v .count; versions = v .places })
+  unfolding deviceBody deviceAt then whole pick
+  body-accepted a v p q e f n = rw (le-leb (length s) 2048 h, e, f, eq-eqb q (length s) n)

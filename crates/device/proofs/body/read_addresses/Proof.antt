@@ -1,0 +1,118 @@
+-- `device::body::read_addresses` meets its contract. The loop's invariant: the items left, put behind those in the places now, are what all of
+-- them put into blank places were at the start. The measure is how many items are left. `k` is the place at the loop.
+use Prim.Native.Nat.{_-_, _≤_}
+use Rattle.device.proofs.PlaceLaws.{list-begun, list-refused, placed, placed-next, placed-none, placed-refused}
+use Rattle.device.specs.Addresses.{addressAt, blankAddress}
+use Rattle.device.specs.Answers.{resList, resAddress, whyAddress}
+use Rattle.xdr.proofs.Accepted.{count-read}
+use Rattle.xdr.proofs.Steps.{came, handed}
+use Rattle.xdr.specs.Answers.{resU32}
+use Rattle.xdr.specs.Res.{no, manyAt}
+use borrow.Author.Needs.{needs}
+use lib.ListN.{replicate}
+use mathlib.Core.Path.{_≡_, refl, sym, ap, _∙_}
+use native.Mathlib.Omega.{arith}
+use Rattle.device.proofs.body.read_addresses.Statement.{statement}
+use Rattle.device.proofs.body.read_addresses.Tie as tie
+
+abbrev Inv-loop : tie.InvT-loop
+Inv-loop s places₀ n d₀ i₀ places d i =
+    (i ≤ n)
+    × (n ≤ 8)
+    × (placed n places₀ 0 (manyAt addressAt n s (d₀ .at)) ≡ placed n places i (manyAt addressAt (n - i) s (d .at)))
+
+abbrev μ-loop : tie.MeasureT-loop
+μ-loop s places₀ n d₀ i₀ places d i = n - i
+
+read-count-requires : tie.Need-read-count-requires Inv-loop μ-loop
+read-count-requires c κs = search needs
+
+enum-known-count : tie.Need-enum-known-count Inv-loop μ-loop
+enum-known-count c = search needs
+
+enum-told : tie.Need-enum-told Inv-loop μ-loop
+enum-told c = search needs
+
+returns : tie.Need-returns Inv-loop μ-loop
+returns c =
+    let g = c .enum-told .given .1 in
+    ap (resList (replicate 8 blankAddress)) g ∙ sym (list-refused addressAt blankAddress _ _ _ (came resU32 (c .before .before .read-count .ensures) g))
+
+loop-holds : tie.Need-loop-holds Inv-loop μ-loop
+loop-holds c =
+    let n = c .before .count .given .0 .0 in
+    let e : n - 0 ≡ n = omega arith in
+    let h = came resU32 (c .before .before .before .read-count .ensures) (c .before .count .given .1) in
+    (omega arith, count-read 1 8 _ _ _ _ h .high, rw e)
+
+read-address-requires : tie.Need-read-address-requires Inv-loop μ-loop
+read-address-requires c κs = search needs
+
+enum-known-r : tie.Need-enum-known-r Inv-loop μ-loop
+enum-known-r c = search needs
+
+enum-told-2 : tie.Need-enum-told-2 Inv-loop μ-loop
+enum-told-2 c = search needs
+
+why-address-requires : tie.Need-why-address-requires Inv-loop μ-loop
+why-address-requires c κs = search needs
+
+returns-2 : tie.Need-returns-2 Inv-loop μ-loop
+returns-2 c =
+    let k = c .before .before .before .before .before in
+    let l = k .loop in
+    let h = came resU32 (k .before .before .before .before .read-count .ensures) (k .before .before .count .given .1) in
+    let g = handed resAddress whyAddress no (c .before .before .before .read-address .ensures) (c .before .enum-told2 .given .1) (c .why-address .ensures) refl in
+    sym (list-begun addressAt blankAddress _ _ _ _ h ∙ l .inv .2 ∙ placed-refused addressAt _ (l .places) (l .i) _ _ (l .d .at) _ (omega arith) g)
+
+cast-places : tie.Need-cast-places Inv-loop μ-loop
+cast-places c = search needs
+
+mul-places : tie.Need-mul-places Inv-loop μ-loop
+mul-places c = search needs
+
+array-set-from-places : tie.Need-array-set-from-places Inv-loop μ-loop
+array-set-from-places c = search needs
+
+add-i : tie.Need-add-i Inv-loop μ-loop
+add-i c = search needs
+
+loop-less : tie.Need-loop-less Inv-loop μ-loop
+loop-less c = search needs
+
+loop-again : tie.Need-loop-again Inv-loop μ-loop
+loop-again c =
+    let l = c .before .before .before .before .before .loop in
+    let g = came resAddress (c .before .before .before .read-address .ensures) (c .before .r .given .1) in
+    (omega arith, l .inv .1, l .inv .2 ∙ placed-next addressAt _ (l .places) (l .i) _ _ (l .d .at) _ _ (omega arith) g)
+
+returns-3 : tie.Need-returns-3 Inv-loop μ-loop
+returns-3 c =
+    let k = c .before in
+    let l = k .loop in
+    let h = came resU32 (k .before .before .before .before .read-count .ensures) (k .before .before .count .given .1) in
+    sym (list-begun addressAt blankAddress _ _ _ _ h ∙ l .inv .2 ∙ placed-none addressAt _ (l .places) (l .i) _ _ (l .d .at) (omega arith))
+
+pub read-addresses-spec : {M : Type 1} → statement M
+read-addresses-spec =
+    tie.close
+    (tie.spec
+    Inv-loop
+    μ-loop
+    read-count-requires
+    enum-known-count
+    enum-told
+    returns
+    loop-holds
+    read-address-requires
+    enum-known-r
+    enum-told-2
+    why-address-requires
+    returns-2
+    cast-places
+    mul-places
+    array-set-from-places
+    add-i
+    loop-less
+    loop-again
+    returns-3)

@@ -1,0 +1,53 @@
+-- What the readers' answers say: the value and the place after it, or the number.
+use mathlib.Core.List.{List}
+use Rattle.base.specs.Answer.{Answer, accepted, refused}
+use Rattle.base.specs.Refusals.{numberOf}
+use Rattle.base.specs.declared.refusal.Refusal.{Refusal}
+use Rattle.base.specs.declared.refusal.Refusal.the-variants.{BytesRunOut}
+use Rattle.xdr.specs.Res.{Res, ok, no}
+use Rattle.xdr.specs.declared.number.ReadU32.{ReadU32}
+use Rattle.xdr.specs.declared.number.ReadU32.the-variants as u32
+use Rattle.device.specs.Bodies.{Device, Listed}
+use Rattle.device.specs.declared.address.Address.{Address}
+use Rattle.device.specs.declared.address.ReadAddress.{ReadAddress}
+use Rattle.device.specs.declared.address.ReadAddress.the-variants as address
+use Rattle.device.specs.declared.version.Version.{Version}
+use Rattle.device.specs.declared.version.ReadVersion.{ReadVersion}
+use Rattle.device.specs.declared.version.ReadVersion.the-variants as version
+use Rattle.device.specs.declared.body.DeviceAnswer.{DeviceAnswer}
+use Rattle.device.specs.declared.body.DeviceAnswer.the-variants as device
+use Rattle.device.specs.declared.body.DeviceRead.{DeviceRead}
+
+abbrev pub resAddress : ReadAddress → Res Address
+resAddress (address.Value a c) = ok a (c .at)
+resAddress (address.Refused e) = no (numberOf e)
+
+abbrev pub resVersion : ReadVersion → Res Version
+resVersion (version.Value v c) = ok v (c .at)
+resVersion (version.Refused e) = no (numberOf e)
+
+-- of a list, the answer is the count; the places stand beside it
+abbrev pub resList : {A : Type 0} → List A → ReadU32 → Res (Listed A)
+resList l (u32.Value n c) = ok (record { count = n; places = l }) (c .at)
+resList l (u32.Refused e) = no (numberOf e)
+
+abbrev pub deviceOf : DeviceAnswer → List Address → List Version → Answer Device
+deviceOf (device.Counts m n) addresses versions =
+    accepted (record { addressCount = m; addresses = addresses; versionCount = n; versions = versions })
+deviceOf (device.Refused e) addresses versions = refused (numberOf e)
+
+abbrev pub deviceAnswer : DeviceRead → Answer Device
+deviceAnswer r = deviceOf (r .answer) (r .addresses) (r .versions)
+
+-- The refusal in an answer; of an answer with a value, the first of the refusals.
+abbrev pub whyAddress : ReadAddress → Refusal
+whyAddress (address.Value a c) = BytesRunOut
+whyAddress (address.Refused e) = e
+
+abbrev pub whyVersion : ReadVersion → Refusal
+whyVersion (version.Value v c) = BytesRunOut
+whyVersion (version.Refused e) = e
+
+abbrev pub whyDevice : DeviceAnswer → Refusal
+whyDevice (device.Counts m n) = BytesRunOut
+whyDevice (device.Refused e) = e

@@ -1,0 +1,51 @@
+-- The device body: "address count (1 to 8), each ..; version count (1 to 8), each ..".
+use Prim.Native.Nat.{ℕ}
+use mathlib.Core.List.{List}
+use lib.ListN.{length, replicate}
+use lib.Dec.{leb}
+use Rattle.base.specs.Answer.{Answer, accepted, refused, pick}
+use Rattle.base.specs.Lists.{padded}
+use Rattle.xdr.specs.Res.{Res, ok, then, manyAt, whole}
+use Rattle.xdr.specs.Items.{countAt}
+use Rattle.device.specs.Addresses.{addressAt, blankAddress}
+use Rattle.device.specs.Versions.{versionAt, blankVersion}
+use Rattle.device.specs.declared.address.Address.{Address}
+use Rattle.device.specs.declared.version.Version.{Version}
+
+-- how many items there are, and 8 places: the items first, the others blank
+pub record Listed (A : Type 0) : Type 0 where
+  pub count : ℕ
+  pub places : List A
+
+-- a count from 1 to 8, and as many items
+unfoldable pub listAt : {A : Type 0} → (List ℕ → ℕ → Res A) → A → List ℕ → ℕ → Res (Listed A)
+listAt item blank s at =
+    then (countAt 1 8 s at) λ n p.
+    then (manyAt item n s p) λ l q.
+    ok (record { count = n; places = padded 8 blank l }) q
+
+-- the addresses and the versions of one data server, in 8 places each
+pub record Device : Type 0 where
+  pub addressCount : ℕ
+  pub addresses : List Address
+  pub versionCount : ℕ
+  pub versions : List Version
+
+unfoldable pub deviceAt : List ℕ → ℕ → Res Device
+deviceAt s at =
+    then (listAt addressAt blankAddress s at) λ a p.
+    then (listAt versionAt blankVersion s p) λ v q.
+    ok (record { addressCount = a .count; addresses = a .places; versionCount = v .count; versions = v .places }) q
+
+-- "At most 2,048 bytes, tested first of all; nothing may follow."
+unfoldable pub deviceBody : List ℕ → Answer Device
+deviceBody s = pick (leb (length s) 2048) (whole s (deviceAt s 0)) (refused 8)
+
+-- "A refusal gives its number, no other result": all places are blank then
+abbrev pub addressesIn : Answer Device → List Address
+addressesIn (accepted d) = d .addresses
+addressesIn (refused n) = replicate 8 blankAddress
+
+abbrev pub versionsIn : Answer Device → List Version
+versionsIn (accepted d) = d .versions
+versionsIn (refused n) = replicate 8 blankVersion

@@ -1,0 +1,126 @@
+-- What holds of an accepted body: its limits, and what stands at a start: the data server of that mirror and stripe. Other places are 0.
+use Prim.Native.Nat.{ℕ, zero, suc, _+_, _-_, _*_, _≤_, _<_}
+use mathlib.Core.Path.{_≡_, refl, sym, ap, _∙_}
+use mathlib.Core.Bool.{Bool, true, false}
+use mathlib.Core.List.{List, [], _∷_, _++_, map}
+use native.Mathlib.Omega.{arith}
+use borrow.Author.Tests.{eqb-true, leb-true}
+use lib.Dec.{eqb}
+use lib.ListN.{length, getD, replicate, length-append, length-map, length-replicate, getD-replicate, List·getD-append, List·getD-map, List·getD-eq-default}
+use lib.Seq.{getD-append-add}
+use Rattle.base.specs.Answer.{Answer, accepted, refused, pick}
+use Rattle.base.specs.Lists.{padded}
+use Rattle.xdr.specs.Res.{Res, ok, no, then, manyAt, whole}
+use Rattle.xdr.specs.declared.Part.{Part}
+use Rattle.xdr.proofs.Accepted.{passed, ran, same-place, same-value}
+use Rattle.server.specs.Servers.{serverAt}
+use Rattle.server.specs.declared.item.Server.{Server}
+use Rattle.server.proofs.ServerLaws.{Read, server-read}
+use Rattle.layout.specs.Layouts.{Layout, frontAt, layoutAt, layoutBody, mirrorAt, mirrorsAt, rows, startsOf, tailAt, unitFits}
+use Rattle.layout.specs.declared.ends.Front.{Front}
+use Rattle.layout.specs.declared.ends.Tail.{Tail}
+use Rattle.layout.proofs.FrontLaws.{FrontRead, front-read}
+use Rattle.layout.proofs.TableLaws.{EachHas, Rows, mirrors-have}
+
+-- ---- the parts of an accepted body
+
+never-accepted : {A B : Type 0} (n : ℕ) (a : A) → refused n ≡ accepted a → B
+never-accepted n a e = let z : _≡_ {A = ℕ} 0 1 = cc in absurd (omega arith)
+
+pub record Parts (s : List ℕ) (l : Layout) : Type 0 where
+  pub front : Front
+  pub p1 : ℕ
+  pub front-read : frontAt s 0 ≡ ok front p1
+  pub mirrors : List (List Server)
+  pub p2 : ℕ
+  pub mirrors-read : mirrorsAt (front .mirrors) (front .servers) s p1 ≡ ok mirrors p2
+  pub tail : Tail
+  pub tail-read : tailAt s p2 ≡ ok tail (length s)
+  pub whole : record {
+    summary = record { unit = front .unit; mirrors = front .mirrors; servers = front .servers; flags = tail .flags; hint = tail .hint };
+    starts = startsOf mirrors;
+  } ≡ l
+
+read-whole : (s : List ℕ) (x : Res Layout) (l : Layout) → whole s x ≡ accepted l → x ≡ ok l (length s)
+unfolding whole pick
+read-whole s (ok a p) l e = go (eqb p (length s)) refl e where
+  go : (t : Bool) → eqb p (length s) ≡ t → pick t (accepted a) (refused 2) ≡ accepted l → ok a p ≡ ok l (length s)
+  go true h k = let f : a ≡ l = cc in let g : p ≡ length s = eqb-true p (length s) h in rw (f, g)
+  go false h k = never-accepted 2 l k
+read-whole s (no n) l e = never-accepted n l e
+
+small-whole : (t : Bool) (x : Answer Layout) (l : Layout) → pick t x (refused 8) ≡ accepted l → x ≡ accepted l
+unfolding pick
+small-whole true x l e = e
+small-whole false x l e = never-accepted 8 l e
+
+pub accepted-parts : (s : List ℕ) (l : Layout) → layoutBody s ≡ accepted l → Parts s l
+unfolding layoutBody layoutAt
+accepted-parts s l e =
+    let w = read-whole s (layoutAt s) l (small-whole _ _ l e) in
+    let f = ran _ _ l (length s) w in
+    let m = ran _ _ l (length s) (f .rest) in
+    let t = ran _ _ l (length s) (m .rest) in
+    record {
+      front = f .item;
+      p1 = f .next;
+      front-read = f .first;
+      mirrors = m .item;
+      p2 = m .next;
+      mirrors-read = m .first;
+      tail = t .item;
+      tail-read = t .first ∙ ap (λ (q : ℕ). ok (t .item) q) (same-place (t .rest));
+      whole = same-value (t .rest);
+    }
+
+-- "1 to 8 mirrors; 1 to 16 servers a mirror", and the unit's rule
+pub record Limits (l : Layout) : Type 0 where
+  pub mirrors-some : 1 ≤ l .summary .mirrors
+  pub mirrors-few : l .summary .mirrors ≤ 8
+  pub servers-some : 1 ≤ l .summary .servers
+  pub servers-few : l .summary .servers ≤ 16
+  pub unit-fits : unitFits (l .summary .unit) (l .summary .servers) ≡ true
+
+pub accepted-limits : (s : List ℕ) (l : Layout) → layoutBody s ≡ accepted l → Limits l
+accepted-limits s l e =
+    let p = accepted-parts s l e in
+    let f = front-read s 0 (p .front) (p .p1) (p .front-read) in
+    rw (← p .whole)
+    (record {
+      mirrors-some = f .mirrors-some;
+      mirrors-few = f .mirrors-few;
+      servers-some = f .servers-some;
+      servers-few = f .servers-few;
+      unit-fits = f .fits;
+    })
+
+-- ---- a place of the table
+
+zeros-behind : (l : List ℕ) (r i : ℕ) → getD (l ++ replicate r 0) i 0 ≡ getD l i 0
+zeros-behind [] zero i = refl
+zeros-behind [] (suc r) zero = refl
+zeros-behind [] (suc r) (suc i) = zeros-behind [] r i
+zeros-behind (x ∷ l) r zero = refl
+zeros-behind (x ∷ l) r (suc i) = zeros-behind l r i
+
+row-length : (n : ℕ) (m : List Server) → length m ≡ n → n ≤ 16 → length (padded 16 0 (map (λ v. v .device) m)) ≡ 16
+unfolding padded
+row-length n m e h =
+    let k : length (map (λ v. v .device) m) ≤ 16 = omega (arith, length-map m (λ (v : Server). v .device), e) in
+    simp (length-append, length-replicate) (omega arith)
+
+rows-at : (n : ℕ) (ms : List (List Server)) → n ≤ 16 → EachHas n ms → (m k : ℕ) → k < 16
+    → getD (rows ms) (m * 16 + k) 0 ≡ getD (map (λ v. v .device) (getD ms m [])) k 0
+unfolding rows padded
+rows-at n [] h each m k small = refl
+rows-at n (row ∷ ms) h each zero k small =
+    let e : 0 * 16 + k ≡ k = omega arith in
+    let lr : k < length (padded 16 0 (map (λ v. v .device) row)) = omega (arith, row-length n row (each .0) h) in
+    rw (e, List·getD-append (padded 16 0 (map (λ v. v .device) row)) (rows ms) 0 k lr) (padded-at (map (λ v. v .device) row) k)
+  where
+    padded-at : (l : List ℕ) (i : ℕ) → getD (padded 16 0 l) i 0 ≡ getD l i 0
+    padded-at l i = zeros-behind l (16 - length l) i
+rows-at n (row ∷ ms) h each (suc m) k small =
+    let first = padded 16 0 (map (λ v. v .device) row) in
+    let e : suc m * 16 + k ≡ length first + (m * 16 + k) = omega (arith, row-length n row (each .0) h) in
+    rw (e, getD-append-add first (rows ms) (m * 16 + k) 0) (rows-at n ms h (each .1) m k small)
