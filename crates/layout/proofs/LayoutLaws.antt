@@ -1,6 +1,7 @@
 -- What holds of an accepted body: its limits, and what stands at a start: the data server of that mirror and stripe. Other places are 0.
 use Prim.Native.Nat.{ℕ, zero, suc, _+_, _-_, _*_, _≤_, _<_}
 use mathlib.Core.Path.{_≡_, refl, sym, ap, _∙_}
+use mathlib.Core.Logic.{_⊎_, ⊎-elim}
 use mathlib.Core.Bool.{Bool, true, false}
 use mathlib.Core.List.{List, [], _∷_, _++_, map}
 use native.Mathlib.Omega.{arith}
@@ -124,3 +125,125 @@ rows-at n (row ∷ ms) h each (suc m) k small =
     let first = padded 16 0 (map (λ v. v .device) row) in
     let e : suc m * 16 + k ≡ length first + (m * 16 + k) = omega (arith, row-length n row (each .0) h) in
     rw (e, getD-append-add first (rows ms) (m * 16 + k) 0) (rows-at n ms h (each .1) m k small)
+
+-- ---- the data server at a start
+
+-- a data server was read at this place
+pub record Stands (s : List ℕ) (at : ℕ) : Type 0 where
+  pub server : Server
+  pub next : ℕ
+  pub read : serverAt s at ≡ ok server next
+
+moved : {s : List ℕ} {a b : ℕ} → a ≡ b → Stands s a → Stands s b
+moved {s} g i = record { server = i .server; next = i .next; read = ap (λ (x : ℕ). serverAt s x) (sym g) ∙ i .read }
+
+-- the starts of a mirror's servers
+abbrev pub starts : List Server → List ℕ
+starts m = map (λ v. v .device) m
+
+servers-stand : (n : ℕ) (s : List ℕ) (at : ℕ) (m : List Server) (p : ℕ) → manyAt serverAt n s at ≡ ok m p → (k : ℕ) → k < n → Stands s (getD (starts m) k 0)
+unfolding manyAt
+servers-stand zero s at m p e k h = absurd (omega arith)
+servers-stand (suc n) s at m p e zero h =
+    let r = ran _ _ m p e in
+    let t = ran _ _ m p (r .rest) in
+    let f : r .item ∷ t .item ≡ m = same-value (t .rest) in
+    let d : r .item .device ≡ at = server-read s at (r .item) (r .next) (r .first) .device in
+    let g : getD (starts m) 0 0 ≡ at = ap (λ (l : List Server). getD (starts l) 0 0) (sym f) ∙ d in
+    record { server = r .item; next = r .next; read = ap (λ (q : ℕ). serverAt s q) g ∙ r .first }
+servers-stand (suc n) s at m p e (suc k) h =
+    let r = ran _ _ m p e in
+    let t = ran _ _ m p (r .rest) in
+    let f : r .item ∷ t .item ≡ m = same-value (t .rest) in
+    let g : getD (starts (t .item)) k 0 ≡ getD (starts m) (suc k) 0 = ap (λ (l : List Server). getD (starts l) (suc k) 0) f in
+    let i = servers-stand n s (r .next) (t .item) (t .next) (t .first) k (omega arith) in
+    moved g i
+
+mirrors-stand : (n j : ℕ) (s : List ℕ) (at : ℕ) (ms : List (List Server)) (p : ℕ) → manyAt (mirrorAt n) j s at ≡ ok ms p
+    → (m k : ℕ) → m < j → k < n → Stands s (getD (starts (getD ms m [])) k 0)
+unfolding manyAt mirrorAt
+mirrors-stand n zero s at ms p e m k h small = absurd (omega arith)
+mirrors-stand n (suc j) s at ms p e zero k h small =
+    let r = ran _ _ ms p e in
+    let t = ran _ _ ms p (r .rest) in
+    let f : r .item ∷ t .item ≡ ms = same-value (t .rest) in
+    let q = ran _ _ (r .item) (r .next) (r .first) in
+    let u = passed _ _ 9 (r .item) (r .next) (q .rest) in
+    let i = servers-stand n s (q .next) (r .item) (r .next) (u .chosen) k small in
+    let g : getD (starts (r .item)) k 0 ≡ getD (starts (getD ms 0 [])) k 0 = ap (λ (l : List (List Server)). getD (starts (getD l 0 [])) k 0) f in
+    moved g i
+mirrors-stand n (suc j) s at ms p e (suc m) k h small =
+    let r = ran _ _ ms p e in
+    let t = ran _ _ ms p (r .rest) in
+    let f : r .item ∷ t .item ≡ ms = same-value (t .rest) in
+    let i = mirrors-stand n j s (r .next) (t .item) (t .next) (t .first) m k (omega arith) small in
+    let g : getD (starts (getD (t .item) m [])) k 0 ≡ getD (starts (getD ms (suc m) [])) k 0 = ap (λ (l : List (List Server)). getD (starts (getD l (suc m) [])) k 0) f in
+    moved g i
+
+all-stand : (mirrors servers : ℕ) (s : List ℕ) (at : ℕ) (ms : List (List Server)) (p : ℕ) → mirrorsAt mirrors servers s at ≡ ok ms p
+    → (m k : ℕ) → m < mirrors → k < servers → Stands s (getD (starts (getD ms m [])) k 0)
+unfolding mirrorsAt
+all-stand mirrors servers s at ms p e zero k h small =
+    let r = ran _ _ ms p e in
+    let t = ran _ _ ms p (r .rest) in
+    let f : r .item ∷ t .item ≡ ms = same-value (t .rest) in
+    let i = servers-stand servers s at (r .item) (r .next) (r .first) k small in
+    let g : getD (starts (r .item)) k 0 ≡ getD (starts (getD ms 0 [])) k 0 = ap (λ (l : List (List Server)). getD (starts (getD l 0 [])) k 0) f in
+    moved g i
+all-stand mirrors servers s at ms p e (suc m) k h small =
+    let r = ran _ _ ms p e in
+    let t = ran _ _ ms p (r .rest) in
+    let f : r .item ∷ t .item ≡ ms = same-value (t .rest) in
+    let i = mirrors-stand servers (mirrors - 1) s (r .next) (t .item) (t .next) (t .first) m k (omega arith) small in
+    let g : getD (starts (getD (t .item) m [])) k 0 ≡ getD (starts (getD ms (suc m) [])) k 0 = ap (λ (l : List (List Server)). getD (starts (getD l (suc m) [])) k 0) f in
+    moved g i
+
+-- the place of mirror m and stripe k in the table
+place-of : (s : List ℕ) (l : Layout) (h : layoutBody s ≡ accepted l) (m k : ℕ) → k < 16
+    → getD (l .starts) (m * 16 + k) 0 ≡ getD (starts (getD (accepted-parts s l h .mirrors) m [])) k 0
+unfolding startsOf padded
+place-of s l h m k small =
+    let p = accepted-parts s l h in
+    let f = front-read s 0 (p .front) (p .p1) (p .front-read) in
+    let r = mirrors-have (p .front .mirrors) (p .front .servers) s (p .p1) (p .mirrors) (p .p2) (f .mirrors-some) (p .mirrors-read) in
+    ap (λ (x : Layout). getD (x .starts) (m * 16 + k) 0) (sym (p .whole))
+    ∙ zeros-behind (rows (p .mirrors)) (128 - length (rows (p .mirrors))) (m * 16 + k)
+    ∙ rows-at (p .front .servers) (p .mirrors) (f .servers-few) (r .each) m k small
+
+-- at each used start stands a data server: its device id there, efficiency 16 bytes on, stateid 20, filehandle count 36 (`server-read`)
+pub start-stands : (s : List ℕ) (l : Layout) → layoutBody s ≡ accepted l
+    → (m k : ℕ) → m < l .summary .mirrors → k < l .summary .servers → Stands s (getD (l .starts) (m * 16 + k) 0)
+start-stands s l h m k hm hk =
+    let p = accepted-parts s l h in
+    let n = accepted-limits s l h in
+    let em : p .front .mirrors ≡ l .summary .mirrors = ap (λ (x : Layout). x .summary .mirrors) (p .whole) in
+    let en : p .front .servers ≡ l .summary .servers = ap (λ (x : Layout). x .summary .servers) (p .whole) in
+    let i = all-stand (p .front .mirrors) (p .front .servers) s (p .p1) (p .mirrors) (p .p2) (p .mirrors-read) m k (omega arith) (omega arith) in
+    let g = place-of s l h m k (omega (arith, n .servers-few)) in
+    moved (sym g) i
+
+-- ---- unused places
+
+row-has : (n : ℕ) (ms : List (List Server)) → EachHas n ms → (m : ℕ) → length (getD ms m []) ≤ n
+row-has n [] each m = omega arith
+row-has n (row ∷ ms) each zero = omega (arith, each .0)
+row-has n (row ∷ ms) each (suc m) = row-has n ms (each .1) m
+
+-- a place beyond the mirrors, or beyond a mirror's servers, holds 0
+pub start-unused : (s : List ℕ) (l : Layout) → layoutBody s ≡ accepted l
+    → (m k : ℕ) → k < 16 → (l .summary .mirrors ≤ m) ⊎ (l .summary .servers ≤ k) → getD (l .starts) (m * 16 + k) 0 ≡ 0
+start-unused s l h m k small beyond =
+    let p = accepted-parts s l h in
+    let f = front-read s 0 (p .front) (p .p1) (p .front-read) in
+    let r = mirrors-have (p .front .mirrors) (p .front .servers) s (p .p1) (p .mirrors) (p .p2) (f .mirrors-some) (p .mirrors-read) in
+    let em : p .front .mirrors ≡ l .summary .mirrors = ap (λ (x : Layout). x .summary .mirrors) (p .whole) in
+    let en : p .front .servers ≡ l .summary .servers = ap (λ (x : Layout). x .summary .servers) (p .whole) in
+    let row = getD (p .mirrors) m [] in
+    let short : length row ≤ p .front .servers = row-has (p .front .servers) (p .mirrors) (r .each) m in
+    let len : length (starts row) ≡ length row = length-map row (λ (v : Server). v .device) in
+    let none : length (starts row) ≤ k =
+    ⊎-elim
+    (λ b. let z : length (p .mirrors) ≤ m = omega (arith, r .count) in let e : row ≡ [] = List·getD-eq-default (p .mirrors) [] z in omega (arith, ap length e))
+    (λ b. omega arith)
+    beyond in
+    place-of s l h m k small ∙ List·getD-eq-default (starts row) 0 none

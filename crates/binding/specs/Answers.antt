@@ -1,0 +1,23 @@
+-- What the answers of a binding say.
+use Prim.Native.Nat.{ℕ}
+use Rattle.base.specs.Answer.{Answer, accepted, refused}
+use Rattle.base.specs.Refusals.{numberOf}
+use Rattle.base.specs.declared.refusal.Refusal.{Refusal}
+use Rattle.base.specs.declared.refusal.Refusal.the-variants.{NoSupportedVersion}
+use Rattle.binding.specs.declared.choice.Choice.{Choice}
+use Rattle.binding.specs.declared.choice.Choice.the-variants as choice
+use Rattle.binding.specs.declared.entry.Bound.{Bound}
+use Rattle.binding.specs.declared.entry.Binding.{Binding}
+use Rattle.binding.specs.declared.entry.Binding.the-variants as binding
+
+abbrev pub choiceAnswer : Choice → Answer ℕ
+choiceAnswer (choice.Entry i) = accepted i
+choiceAnswer (choice.Refused e) = refused (numberOf e)
+
+abbrev pub whyChoice : Choice → Refusal
+whyChoice (choice.Entry i) = NoSupportedVersion
+whyChoice (choice.Refused e) = e
+
+abbrev pub bindingAnswer : Binding → Answer Bound
+bindingAnswer (binding.Value b) = accepted b
+bindingAnswer (binding.Refused e) = refused (numberOf e)

@@ -1,0 +1,69 @@
+// Which version entry is chosen, and the filehandle at a place.
+use base::Refusal;
+use device::Version;
+use server::ReadEnd;
+use xdr::Cursor;
+use xdr::ReadPart;
+ghost use mathlib.Core.Path.{_≡_};
+ghost use Prim.Native.Nat.{_≤_, _<_};
+ghost use lib.ListN.{take};
+ghost use Rattle.xdr.specs.Answers.{resPart};
+ghost use Rattle.binding.specs.Bindings.{chosenFrom, handleAt, supports};
+ghost use Rattle.binding.specs.Answers.{choiceAnswer, whyChoice};
+
+pub enum Choice {
+    Entry(u32),
+    Refused(Refusal),
+}
+
+// Bits 1, 2, 4 and 8 stand for 3, 4.0, 4.1 and 4.2.
+pub(crate) fn supported_by(set: u32, v: Version) -> bool
+    ensures { λ r. ⌜ r ≡ supports set v ⌝ }
+{
+    if v.version == 3 {
+        return set % 2 == 1;
+    }
+    if v.minor == 0 {
+        return set / 2 % 2 == 1;
+    }
+    if v.minor == 1 {
+        return set / 4 % 2 == 1;
+    }
+    set / 8 % 2 == 1
+}
+
+// The first of the n entries that is supported.
+pub(crate) fn choose(set: u32, versions: [Version; 8], n: u32) -> Choice
+    requires { ⌜ n ≤ 8 ⌝ }
+    ensures { λ r. ⌜ choiceAnswer r ≡ chosenFrom set 0 (take n versions) ⌝ }
+{
+    let mut i: u32 = 0;
+    while i < n {
+        let v = versions[i as usize];
+        if supported_by(set, v) {
+            return Choice::Entry(i);
+        }
+        i += 1;
+    }
+    Choice::Refused(Refusal::NoSupportedVersion)
+}
+
+pub(crate) fn why_choice(r: Choice) -> Refusal
+    ensures { λ e. ⌜ e ≡ whyChoice r ⌝ }
+{
+    match r {
+        Choice::Refused(e) => e,
+        Choice::Entry(_) => Refusal::NoSupportedVersion,
+    }
+}
+
+// The filehandle behind i others.
+pub(crate) fn read_handle(s: &[u8], first: Cursor, i: u32) -> ReadPart
+    ensures { λ r. ⌜ resPart r ≡ handleAt i (now (s .entry)) (first .at) ⌝ }
+{
+    let p = server::skip_handles(s, first, i);
+    let ReadEnd::Value(c) = p else {
+        return ReadPart::Refused(server::why_end(p));
+    };
+    xdr::read_opaque(s, c, 1, 128)
+}

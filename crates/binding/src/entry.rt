@@ -1,0 +1,129 @@
+// A data server and the version entry chosen for it.
+use crate::choice::Choice;
+use crate::choice::choose;
+use crate::choice::read_handle;
+use crate::choice::why_choice;
+use base::Refusal;
+use device::Version;
+use server::ReadServer;
+use server::Server;
+use xdr::Cursor;
+use xdr::Part;
+use xdr::ReadPart;
+ghost use mathlib.Core.Path.{_≡_};
+ghost use Prim.Native.Nat.{_+_, _≤_};
+ghost use lib.ListN.{length};
+ghost use Rattle.binding.specs.Bindings.{entryBound, matches, serverBound, stateidFits};
+ghost use Rattle.binding.specs.Answers.{bindingAnswer};
+
+// The entry's number and fields, and its filehandle. A tightly coupled entry has the place of the stateid, another one user and group; what is
+// not used is 0.
+pub struct Bound {
+    pub entry: u32,
+    pub version: Version,
+    pub filehandle: Part,
+    pub stateid: usize,
+    pub user: Part,
+    pub group: Part,
+}
+
+pub enum Binding {
+    Value(Bound),
+    Refused(Refusal),
+}
+
+const NOWHERE: Part = Part { start: 0, len: 0 };
+
+// A loosely coupled version 4 takes the anonymous stateid, so the layout has 16 zero bytes there.
+fn stateid_fits(s: &[u8], v: Version, stateid: usize) -> bool
+    requires { ⌜ stateid + 16 ≤ length (now s) ⌝ }
+    ensures { λ r. ⌜ r ≡ stateidFits (now (s .entry)) v stateid ⌝ }
+{
+    if v.version != 4 {
+        return true;
+    }
+    if v.tight {
+        return true;
+    }
+    let end = stateid + 16;
+    numbers::same(&s[stateid..end], &[0u8; 16])
+}
+
+// The server is the device's: its id, and a filehandle for each version entry.
+fn server_matches(s: &[u8], server: Server, count: u32, id: &[u8; 16]) -> bool
+    requires { ⌜ server .device + 16 ≤ length (now s) ⌝ }
+    ensures { λ r. ⌜ r ≡ matches (now (s .entry)) server count (now (id .entry)) ⌝ }
+{
+    let start = server.device;
+    let end = start + 16;
+    if !numbers::same(&s[start..end], id) {
+        return false;
+    }
+    server.handles == count
+}
+
+fn bind_entry(s: &[u8], server: Server, v: Version, i: u32) -> Binding
+    requires { ⌜ server .stateid + 16 ≤ length (now s) ⌝ }
+    ensures { λ r. ⌜ bindingAnswer r ≡ entryBound (now (s .entry)) server v i ⌝ }
+{
+    if !stateid_fits(s, v, server.stateid) {
+        return Binding::Refused(Refusal::StateidNotZero);
+    }
+    let h = read_handle(
+        s,
+        Cursor {
+            at: server.first_handle,
+        },
+        i,
+    );
+    let ReadPart::Value(filehandle, _) = h else {
+        return Binding::Refused(xdr::why_part(h));
+    };
+    if v.tight {
+        return Binding::Value(Bound {
+            entry: i,
+            version: v,
+            filehandle,
+            stateid: server.stateid,
+            user: NOWHERE,
+            group: NOWHERE,
+        });
+    }
+    let user = server.user;
+    let group = server.group;
+    Binding::Value(Bound {
+        entry: i,
+        version: v,
+        filehandle,
+        stateid: 0,
+        user,
+        group,
+    })
+}
+
+// The server that starts at a place, against the first count of the version entries.
+pub(crate) fn bind_server(
+    s: &[u8],
+    start: usize,
+    versions: [Version; 8],
+    count: u32,
+    id: &[u8; 16],
+    set: u32,
+) -> Binding
+    requires { ⌜ count ≤ 8 ⌝ }
+    ensures { λ r. ⌜ bindingAnswer r ≡ serverBound (now (s .entry)) start versions count (now (id .entry)) set ⌝ }
+{
+    let r = server::read_server(s, Cursor { at: start });
+    let ReadServer::Value(server, _) = r else {
+        return Binding::Refused(server::why_server(r));
+    };
+    if !server_matches(s, server, count, id) {
+        return Binding::Refused(Refusal::BindingDiffers);
+    }
+    let e = choose(set, versions, count);
+    let Choice::Entry(i) = e else {
+        return Binding::Refused(why_choice(e));
+    };
+    let v = versions[i as usize];
+    bind_entry(s, server, v, i)
+}
