@@ -9,7 +9,7 @@ use lib.Seq.{sets}
 use Rattle.base.specs.Lists.{padded}
 use Rattle.xdr.specs.Res.{Res, ok, no, then, manyAt}
 use Rattle.xdr.specs.Items.{countAt}
-use Rattle.xdr.proofs.Accepted.{count-read, ran, same-value}
+use Rattle.xdr.proofs.Accepted.{count-read, many-length}
 use Rattle.device.specs.Bodies.{Listed, listAt}
 
 -- ---- the places themselves
@@ -33,16 +33,6 @@ unfolding padded
 length-padded n blank l h = simp (length-append, length-replicate) (omega arith)
 
 -- ---- items read into places
-
-pub many-length : {A : Type 0} (item : List ℕ → ℕ → Res A) (n : ℕ) (s : List ℕ) (at : ℕ) (l : List A) (p : ℕ)
-    → manyAt item n s at ≡ ok l p → length l ≡ n
-unfolding manyAt
-many-length item zero s at l p h = let e : [] ≡ l = same-value h in rw (← e)
-many-length item (suc n) s at l p h =
-    let r = ran _ _ l p h in
-    let t = ran _ _ l p (r .rest) in
-    let e : r .item ∷ t .item ≡ l = same-value (t .rest) in
-    rw (← e) (ap suc (many-length item n s (r .next) (t .item) (t .next) (t .first)))
 
 -- n items, of which those still to be read come into the places t from the place i on
 unfoldable pub placed : {A : Type 0} → ℕ → List A → ℕ → Res (List A) → Res (Listed A)

@@ -7,22 +7,13 @@ use lib.ListN.{length, drop, take, replicate, length-append, length-map, length-
 use lib.Seq.{sets, sets-eq, take-append-seam, drop-append-add}
 use Rattle.base.specs.Lists.{padded}
 use Rattle.xdr.specs.Res.{Res, ok, no, then, manyAt}
-use Rattle.xdr.proofs.Accepted.{never, passed, ran, same-value}
+use Rattle.xdr.proofs.Accepted.{many-length, passed, ran, same-value}
 use Rattle.server.specs.Servers.{serverAt}
 use Rattle.server.specs.declared.item.Server.{Server}
 use Rattle.layout.specs.Layouts.{mirrorAt, mirrorsAt, rows, startsOf}
 use Rattle.layout.specs.Starts.{setRows, withMirrors}
 
 -- ---- lengths
-
-pub many-length : {A : Type 0} (item : List ℕ → ℕ → Res A) (n : ℕ) (s : List ℕ) (at : ℕ) (l : List A) (p : ℕ) → manyAt item n s at ≡ ok l p → length l ≡ n
-unfolding manyAt
-many-length item zero s at l p e = ap length (sym (same-value e))
-many-length item (suc n) s at l p e =
-    let r = ran _ _ l p e in
-    let t = ran _ _ l p (r .rest) in
-    let k : length (t .item) ≡ n = many-length item n s (r .next) (t .item) (t .next) (t .first) in
-    ap length (sym (same-value (t .rest))) ∙ ap suc k
 
 -- each row has n servers
 abbrev pub EachHas : ℕ → List (List Server) → Type 0

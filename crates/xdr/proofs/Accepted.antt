@@ -117,3 +117,12 @@ many-within item s h (suc n) at l p k e =
     let t = ran _ _ l p (r .rest) in
     let f : t .next ≡ p = same-place (t .rest) in
     rw (← f) (many-within item s h n (r .next) (t .item) (t .next) (h at (r .item) (r .next) (r .first)) (t .first))
+
+pub many-length : {A : Type 0} (item : List ℕ → ℕ → Res A) (n : ℕ) (s : List ℕ) (at : ℕ) (l : List A) (p : ℕ) → manyAt item n s at ≡ ok l p → length l ≡ n
+unfolding manyAt
+many-length item zero s at l p e = ap length (sym (same-value e))
+many-length item (suc n) s at l p e =
+    let r = ran _ _ l p e in
+    let t = ran _ _ l p (r .rest) in
+    let k : length (t .item) ≡ n = many-length item n s (r .next) (t .item) (t .next) (t .first) in
+    ap length (sym (same-value (t .rest))) ∙ ap suc k

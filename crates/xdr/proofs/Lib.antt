@@ -1,4 +1,3 @@
 pub mod Steps
 pub mod ItemLaws
-pub mod ManyLaws
 pub mod Accepted

@@ -1,0 +1,361 @@
+//! The case file: records of payload length (LE4), kind (LE2) and payload.
+//!
+//! Numbers in a payload are little-endian unless the payload is a wire body.
+
+use crate::binding::BindRequest;
+use crate::report::{DeviceError, ReportHead, REPORT_LIMIT};
+
+/// "A payload has at most 16,000 bytes."
+pub const PAYLOAD_LIMIT: usize = 16_000;
+/// The largest output that a report-write case may ask for.
+pub const OUTPUT_LIMIT: u32 = 4_096;
+/// The longest error list that a report-write case may hold.
+pub const ERROR_LIST_LIMIT: u32 = 128;
+
+/// The kinds of case, by their numbers in the file.
+pub mod kind {
+    pub const LAYOUT_BODY: u16 = 64;
+    pub const LAYOUT4: u16 = 65;
+    pub const DEVICE: u16 = 66;
+    pub const BIND: u16 = 67;
+    pub const REPORT_READ: u16 = 68;
+    pub const REPORT_WRITE: u16 = 69;
+}
+
+/// One case, ready to be put to the core.
+#[derive(Clone, Debug, PartialEq, Eq)]
+pub enum Case<'a> {
+    LayoutBody(&'a [u8]),
+    Layout4(&'a [u8]),
+    Device(&'a [u8]),
+    Bind(BindRequest<'a>),
+    ReportRead(&'a [u8]),
+    ReportWrite(Box<ReportWrite>),
+}
+
+/// A case of writing reports. `report_count` may be more than the reports that
+/// stand in the payload, of which there are at most 8.
+#[derive(Clone, Debug, Default, PartialEq, Eq)]
+pub struct ReportWrite {
+    pub output_length: usize,
+    pub report_count: u32,
+    pub heads: [ReportHead; REPORT_LIMIT as usize],
+    pub errors: Vec<DeviceError>,
+}
+
+/// How a case file ends; the number is a place in the file.
+#[derive(Clone, Copy, Debug, PartialEq, Eq)]
+pub enum Ending {
+    /// Every record was read; the file's length.
+    End(usize),
+    /// The first byte of a record that is none.
+    Stop(usize),
+}
+
+/// The records of a case file, front to back.
+#[derive(Clone, Debug)]
+pub struct CaseFile<'a> {
+    bytes: &'a [u8],
+    at: usize,
+}
+
+impl<'a> CaseFile<'a> {
+    pub fn new(bytes: &'a [u8]) -> Self {
+        CaseFile { bytes, at: 0 }
+    }
+
+    /// How the file ends, once the iterator has given its last case.
+    pub fn ending(&self) -> Ending {
+        if self.at == self.bytes.len() {
+            Ending::End(self.at)
+        } else {
+            Ending::Stop(self.at)
+        }
+    }
+}
+
+impl<'a> Iterator for CaseFile<'a> {
+    type Item = Case<'a>;
+
+    /// Stays before a record that is cut, too long, of an unknown kind or not
+    /// of its kind's form.
+    fn next(&mut self) -> Option<Case<'a>> {
+        let mut fields = Fields { rest: &self.bytes[self.at..] };
+        let length = fields.u32()? as usize;
+        let kind = fields.u16()?;
+        if length > PAYLOAD_LIMIT {
+            return None;
+        }
+        let case = parse_case(kind, fields.take(length)?)?;
+        self.at = self.bytes.len() - fields.rest.len();
+        Some(case)
+    }
+}
+
+/// A payload of the given kind, or nothing where it does not have its form.
+fn parse_case(kind: u16, payload: &[u8]) -> Option<Case<'_>> {
+    match kind {
+        kind::LAYOUT_BODY => Some(Case::LayoutBody(payload)),
+        kind::LAYOUT4 => Some(Case::Layout4(payload)),
+        kind::DEVICE => Some(Case::Device(payload)),
+        kind::BIND => parse_bind(payload).map(Case::Bind),
+        kind::REPORT_READ => Some(Case::ReportRead(payload)),
+        kind::REPORT_WRITE => parse_report_write(payload).map(Box::new).map(Case::ReportWrite),
+        _ => None,
+    }
+}
+
+/// "mirror (LE4), stripe (LE4), spoken versions (LE4), device id (16), layout
+/// length (LE4), layout body, device body"
+fn parse_bind(payload: &[u8]) -> Option<BindRequest<'_>> {
+    let mut fields = Fields { rest: payload };
+    let mirror = fields.u32()?;
+    let stripe = fields.u32()?;
+    let supported_versions = fields.u32()?;
+    let device_id = fields.fixed()?;
+    let layout_length = fields.u32()? as usize;
+    let layout_body = fields.take(layout_length)?;
+    let device_body = fields.rest;
+    Some(BindRequest { mirror, stripe, supported_versions, device_id, layout_body, device_body })
+}
+
+/// "output length (LE4, at most 4,096), report count (LE4), that many reports
+/// but at most 8: offset (LE8), length (LE8), stateid (16), error count (LE4);
+/// list length (LE4, at most 128), errors"
+fn parse_report_write(payload: &[u8]) -> Option<ReportWrite> {
+    let mut fields = Fields { rest: payload };
+    let output_length = fields.u32_up_to(OUTPUT_LIMIT)? as usize;
+    let report_count = fields.u32()?;
+    let mut heads = [ReportHead::default(); REPORT_LIMIT as usize];
+    for head in &mut heads[..report_count.min(REPORT_LIMIT) as usize] {
+        *head = parse_report_head(&mut fields)?;
+    }
+    let list_length = fields.u32_up_to(ERROR_LIST_LIMIT)?;
+    let errors =
+        (0..list_length).map(|_| parse_device_error(&mut fields)).collect::<Option<Vec<_>>>()?;
+    fields.rest.is_empty().then_some(ReportWrite { output_length, report_count, heads, errors })
+}
+
+fn parse_report_head(fields: &mut Fields) -> Option<ReportHead> {
+    Some(ReportHead {
+        offset: fields.u64()?,
+        length: fields.u64()?,
+        stateid: fields.fixed()?,
+        error_count: fields.u32()?,
+    })
+}
+
+/// "device id (16), status (LE4), operation (LE4)"
+fn parse_device_error(fields: &mut Fields) -> Option<DeviceError> {
+    Some(DeviceError {
+        device_id: fields.fixed()?,
+        status: fields.u32()?,
+        operation: fields.u32()?,
+    })
+}
+
+/// Little-endian fields taken from the front of what is left.
+struct Fields<'a> {
+    rest: &'a [u8],
+}
+
+impl<'a> Fields<'a> {
+    fn take(&mut self, length: usize) -> Option<&'a [u8]> {
+        let (taken, rest) = self.rest.split_at_checked(length)?;
+        self.rest = rest;
+        Some(taken)
+    }
+
+    fn fixed<const N: usize>(&mut self) -> Option<[u8; N]> {
+        self.take(N)?.try_into().ok()
+    }
+
+    fn u16(&mut self) -> Option<u16> {
+        self.fixed().map(u16::from_le_bytes)
+    }
+
+    fn u32(&mut self) -> Option<u32> {
+        self.fixed().map(u32::from_le_bytes)
+    }
+
+    fn u64(&mut self) -> Option<u64> {
+        self.fixed().map(u64::from_le_bytes)
+    }
+
+    fn u32_up_to(&mut self, limit: u32) -> Option<u32> {
+        self.u32().filter(|&value| value <= limit)
+    }
+}
+
+/// A case file being made.
+#[derive(Clone, Debug, Default)]
+pub struct CaseFileWriter {
+    bytes: Vec<u8>,
+}
+
+impl CaseFileWriter {
+    /// Appends a record.
+    pub fn record(&mut self, kind: u16, payload: &[u8]) {
+        self.bytes.extend((payload.len() as u32).to_le_bytes());
+        self.bytes.extend(kind.to_le_bytes());
+        self.bytes.extend(payload);
+    }
+
+    /// Appends a bind record.
+    pub fn bind(&mut self, request: &BindRequest) {
+        let mut payload = Vec::new();
+        payload.extend(request.mirror.to_le_bytes());
+        payload.extend(request.stripe.to_le_bytes());
+        payload.extend(request.supported_versions.to_le_bytes());
+        payload.extend(request.device_id);
+        payload.extend((request.layout_body.len() as u32).to_le_bytes());
+        payload.extend(request.layout_body);
+        payload.extend(request.device_body);
+        self.record(kind::BIND, &payload);
+    }
+
+    /// Appends a report-write record.
+    pub fn report_write(&mut self, case: &ReportWrite) {
+        let mut payload = Vec::new();
+        payload.extend((case.output_length as u32).to_le_bytes());
+        payload.extend(case.report_count.to_le_bytes());
+        for head in &case.heads[..case.report_count.min(REPORT_LIMIT) as usize] {
+            payload.extend(head.offset.to_le_bytes());
+            payload.extend(head.length.to_le_bytes());
+            payload.extend(head.stateid);
+            payload.extend(head.error_count.to_le_bytes());
+        }
+        payload.extend((case.errors.len() as u32).to_le_bytes());
+        for error in &case.errors {
+            payload.extend(error.device_id);
+            payload.extend(error.status.to_le_bytes());
+            payload.extend(error.operation.to_le_bytes());
+        }
+        self.record(kind::REPORT_WRITE, &payload);
+    }
+
+    /// Appends bytes that are no record.
+    pub fn raw(&mut self, bytes: &[u8]) {
+        self.bytes.extend(bytes);
+    }
+
+    /// The file made so far.
+    pub fn bytes(&self) -> &[u8] {
+        &self.bytes
+    }
+
+    /// The finished file.
+    pub fn into_bytes(self) -> Vec<u8> {
+        self.bytes
+    }
+}
+
+#[cfg(test)]
+mod tests {
+    use super::*;
+
+    fn record(kind: u16, payload: &[u8]) -> Vec<u8> {
+        let mut file = CaseFileWriter::default();
+        file.record(kind, payload);
+        file.into_bytes()
+    }
+
+    fn ending(bytes: &[u8]) -> Ending {
+        let mut file = CaseFile::new(bytes);
+        while file.next().is_some() {}
+        file.ending()
+    }
+
+    #[test]
+    fn an_empty_file_ends_at_once() {
+        assert_eq!(ending(&[]), Ending::End(0));
+    }
+
+    #[test]
+    fn a_record_is_length_kind_and_payload() {
+        let bytes = [3, 0, 0, 0, 64, 0, 1, 2, 3, 0, 0, 0, 0, 68, 0];
+        let mut file = CaseFile::new(&bytes);
+        assert_eq!(file.next(), Some(Case::LayoutBody(&[1, 2, 3])));
+        assert_eq!(file.next(), Some(Case::ReportRead(&[])));
+        assert_eq!(file.next(), None);
+        assert_eq!(file.ending(), Ending::End(15));
+    }
+
+    #[test]
+    fn a_cut_record_stops_at_its_first_byte() {
+        let bytes = [record(66, &[1]), record(65, &[1, 2])].concat();
+        for cut in 8..15 {
+            assert_eq!(ending(&bytes[..cut]), Ending::Stop(7));
+        }
+    }
+
+    #[test]
+    fn an_unknown_kind_and_a_long_payload_stop() {
+        for kind in [0, 63, 78, 64 + 256, u16::MAX] {
+            assert_eq!(ending(&record(kind, &[])), Ending::Stop(0));
+        }
+        assert_eq!(ending(&record(64, &[0; 16_000])), Ending::End(16_006));
+        assert_eq!(ending(&record(64, &[0; 16_001])), Ending::Stop(0));
+    }
+
+    #[test]
+    fn bind_payloads_hold_their_layout() {
+        let mut payload = vec![0; 32];
+        assert_eq!(ending(&record(67, &payload)), Ending::End(38));
+        assert_eq!(ending(&record(67, &payload[..31])), Ending::Stop(0));
+        payload[28] = 2;
+        assert_eq!(ending(&record(67, &payload)), Ending::Stop(0));
+        payload.extend([5, 6, 7]);
+        let bytes = record(67, &payload);
+        let Some(Case::Bind(request)) = CaseFile::new(&bytes).next() else { panic!("no bind") };
+        assert_eq!((request.layout_body, request.device_body), (&[5, 6][..], &[7][..]));
+    }
+
+    #[test]
+    fn report_write_payloads_are_exact() {
+        let good = [&[0, 16, 0, 0, 0, 0, 0, 0][..], &[0, 0, 0, 0]].concat();
+        assert_eq!(ending(&record(69, &good)), Ending::End(18));
+        assert_eq!(ending(&record(69, &good[..11])), Ending::Stop(0));
+        assert_eq!(ending(&record(69, &[&good[..], &[0]].concat())), Ending::Stop(0));
+        let long_output = [&[1, 16, 0, 0][..], &good[4..]].concat();
+        assert_eq!(ending(&record(69, &long_output)), Ending::Stop(0));
+        let list =
+            |length: u8| [&good[..8], &[length, 0, 0, 0], &vec![0; length as usize * 24]].concat();
+        assert_eq!(ending(&record(69, &list(128))), Ending::End(18 + 128 * 24));
+        assert_eq!(ending(&record(69, &list(129))), Ending::Stop(0));
+    }
+
+    #[test]
+    fn at_most_eight_reports_stand_in_a_payload() {
+        for count in [8, 9, u32::MAX] {
+            let mut payload = vec![0; 4];
+            payload.extend(count.to_le_bytes());
+            payload.extend([0; 8 * 36 + 4]);
+            let bytes = record(69, &payload);
+            let Some(Case::ReportWrite(case)) = CaseFile::new(&bytes).next() else {
+                panic!("no case")
+            };
+            assert_eq!(case.report_count, count);
+        }
+    }
+
+    #[test]
+    fn what_is_written_is_read_again() {
+        let mut case = ReportWrite { output_length: 70, report_count: 1, ..Default::default() };
+        case.heads[0] = ReportHead { offset: 1, length: 2, stateid: [3; 16], error_count: 4 };
+        case.errors = vec![DeviceError { device_id: [5; 16], status: 6, operation: 7 }];
+        let request = BindRequest {
+            mirror: 1,
+            stripe: 2,
+            supported_versions: 3,
+            device_id: [4; 16],
+            layout_body: &[5, 6],
+            device_body: &[7],
+        };
+        let mut file = CaseFileWriter::default();
+        file.report_write(&case);
+        file.bind(&request);
+        let read: Vec<_> = CaseFile::new(file.bytes()).collect();
+        assert_eq!(read, [Case::ReportWrite(Box::new(case)), Case::Bind(request)]);
+    }
+}

@@ -1,0 +1,306 @@
+//! Random cases of all kinds, sound and damaged.
+
+use super::bodies::{
+    encode_reports, DevicePlan, Layout4Head, LayoutPlan, ReportPlan, ServerPlan, VersionPlan,
+    LOOSE_VERSIONS, TIGHT_VERSIONS,
+};
+use super::layout4s::EDGES;
+use super::layouts::MOST_SERVERS;
+use super::random::Random;
+use super::reports_written::case_of;
+use super::wire::Wire;
+use crate::binding::BindRequest;
+use crate::cases::{kind, CaseFileWriter};
+use crate::report::DeviceError;
+
+/// A file of `count` random cases. One seed in two adds a last record that
+/// stops the run: a cut one, one of an unknown kind, or one without its form.
+pub fn random_file(seed: u64, count: usize) -> Vec<u8> {
+    let mut random = Random::new(seed);
+    let mut cases = CaseFileWriter::default();
+    for _ in 0..count {
+        add_case(&mut cases, &mut random);
+    }
+    match seed % 6 {
+        3 => add_cut_record(&mut cases, &mut random),
+        4 => add_unknown_kind(&mut cases, &mut random),
+        5 => add_record_without_form(&mut cases, &mut random),
+        _ => {}
+    }
+    cases.into_bytes()
+}
+
+fn add_case(cases: &mut CaseFileWriter, random: &mut Random) {
+    match random.below(6) {
+        0 => {
+            let wire = layout_plan(random).encode();
+            cases.record(kind::LAYOUT_BODY, &perhaps_damaged(random, &wire));
+        }
+        1 => add_layout4(cases, random),
+        2 => {
+            let wire = device_plan(random).encode();
+            cases.record(kind::DEVICE, &perhaps_damaged(random, &wire));
+        }
+        3 => add_bind(cases, random),
+        4 => {
+            let wire = encode_reports(&report_plans(random), 0);
+            cases.record(kind::REPORT_READ, &perhaps_damaged(random, &wire));
+        }
+        _ => add_report_write(cases, random),
+    }
+}
+
+/// Half of the bodies stay as they are.
+fn perhaps_damaged(random: &mut Random, wire: &Wire) -> Vec<u8> {
+    let mut bytes = wire.bytes.clone();
+    if random.once_in(2) {
+        return bytes;
+    }
+    match random.below(5) {
+        0 => bytes.truncate(random.below(wire.bytes.len())),
+        1 => {
+            let more = random.between(1, 8);
+            bytes.resize(wire.bytes.len() + more, 0);
+        }
+        2 => bytes = random.one_byte_changed(&bytes),
+        3 => spoil_padding(random, wire, &mut bytes),
+        _ => spoil_item(random, wire, &mut bytes),
+    }
+    bytes
+}
+
+fn spoil_padding(random: &mut Random, wire: &Wire, bytes: &mut [u8]) {
+    let places = wire.padding_places();
+    if !places.is_empty() {
+        bytes[random.pick(&places)] = random.between(1, 255) as u8;
+    }
+}
+
+/// A number near a limit in the first four bytes of some item.
+fn spoil_item(random: &mut Random, wire: &Wire, bytes: &mut [u8]) {
+    let numbers =
+        [0, 1, 2, 3, 4, 5, 7, 8, 9, 15, 16, 17, 25, 38, 64, 65, 128, 129, 1 << 31, u32::MAX];
+    let place = random.pick(&wire.item_places());
+    if let Some(target) = bytes.get_mut(place..place + 4) {
+        target.copy_from_slice(&random.pick(&numbers).to_be_bytes());
+    }
+}
+
+fn layout_plan(random: &mut Random) -> LayoutPlan {
+    let mirrors = random.between(1, 8);
+    let most = if random.once_in(3) { MOST_SERVERS[mirrors - 1] } else { 3 };
+    let servers = if random.once_in(2) { 1 } else { random.between(1, most) };
+    let mut plan = LayoutPlan::plain(mirrors, servers);
+    if servers > 1 {
+        plan.unit = 1 << random.below(64);
+    }
+    plan.flags = random.below(16) as u32;
+    plan.hint = random.next_u32();
+    for server in plan.mirrors.iter_mut().flatten() {
+        if random.once_in(2) {
+            *server = server_plan(random);
+        }
+    }
+    plan
+}
+
+fn server_plan(random: &mut Random) -> ServerPlan {
+    let count = if random.once_in(3) { random.between(1, 8) } else { 1 };
+    let longest = if random.once_in(3) { 128 } else { 9 };
+    let lengths: Vec<usize> = (0..count).map(|_| random.between(1, longest)).collect();
+    let owner = |random: &mut Random| random.pick(&[0, 1, 2, 3, 4, 5, 63, 64]);
+    let (user, group) = (owner(random), owner(random));
+    ServerPlan {
+        device_id: random.fixed(),
+        efficiency: random.next_u32(),
+        stateid: if random.once_in(2) { [0; 16] } else { random.fixed() },
+        ..ServerPlan::sized(random.next_u32() as u8, &lengths, user, group)
+    }
+}
+
+/// A number that is an edge, near one, or any.
+fn edge(random: &mut Random) -> u64 {
+    match random.below(4) {
+        0 => random.next_u64(),
+        1 => random.pick(&EDGES).wrapping_add(random.between(0, 4) as u64).wrapping_sub(2),
+        2 => random.next_u64() >> random.below(64),
+        _ => random.pick(&EDGES),
+    }
+}
+
+fn add_layout4(cases: &mut CaseFileWriter, random: &mut Random) {
+    let wire = layout_plan(random).encode();
+    let body = perhaps_damaged(random, &wire);
+    let head = Layout4Head {
+        offset: edge(random),
+        length: edge(random),
+        iomode: if random.once_in(8) { random.between(0, 5) as u32 } else { 2 },
+        layout_type: if random.once_in(8) { random.between(0, 5) as u32 } else { 4 },
+    };
+    let length = body.len() + random.pick(&[0, 0, 0, 1, 2, 4])
+        - random.pick(&[0, 0, 0, 0, 4]).min(body.len());
+    let bytes =
+        if random.once_in(4) { head.claiming(length as u32, &body) } else { head.around(&body) };
+    cases.record(kind::LAYOUT4, &bytes);
+}
+
+fn version_plans(random: &mut Random, count: usize) -> Vec<VersionPlan> {
+    let all = [&LOOSE_VERSIONS[..], &TIGHT_VERSIONS].concat();
+    (0..count).map(|_| random.pick(&all)).collect()
+}
+
+fn device_plan(random: &mut Random) -> DevicePlan {
+    let netids: [&[u8]; 8] = [b"tcp", b"tcp6", b"udp", b"udp6", b"rdma", b"rdma6", b"tc", b"tcp66"];
+    let address = |random: &mut Random| {
+        let netid = random.pick(&netids).to_vec();
+        let length = random.between(1, 64);
+        (netid, random.bytes(length))
+    };
+    let addresses = (0..random.between(1, 8)).map(|_| address(random)).collect();
+    let count = random.between(1, 8);
+    DevicePlan { addresses, versions: version_plans(random, count) }
+}
+
+/// A layout and a device that mostly belong together.
+fn add_bind(cases: &mut CaseFileWriter, random: &mut Random) {
+    let plan = layout_plan(random);
+    let mirror = random.below(plan.mirrors.len());
+    let stripe = random.below(plan.mirrors[mirror].len());
+    let server = &plan.mirrors[mirror][stripe];
+    let count = if random.once_in(8) { random.between(1, 8) } else { server.filehandles.len() };
+    let device = DevicePlan::with_versions(&version_plans(random, count)).encode();
+    let wire = plan.encode();
+    let whole = random.once_in(2);
+    let layout_body = if whole { wire.bytes } else { perhaps_damaged(random, &wire) };
+    let device_body = if whole { device.bytes } else { perhaps_damaged(random, &device) };
+    let beyond = |random: &mut Random, place: usize| {
+        let number = if random.once_in(12) { random.pick(&[1, 8, 16, u32::MAX]) } else { 0 };
+        number.wrapping_add(place as u32)
+    };
+    cases.bind(&BindRequest {
+        mirror: beyond(random, mirror),
+        stripe: beyond(random, stripe),
+        supported_versions: if random.once_in(12) {
+            random.next_u32()
+        } else {
+            random.below(16) as u32
+        },
+        device_id: if random.once_in(12) { random.fixed() } else { server.device_id },
+        layout_body: &layout_body,
+        device_body: &device_body,
+    });
+}
+
+fn report_plans(random: &mut Random) -> Vec<ReportPlan> {
+    (0..random.between(0, 8)).map(|_| report_plan(random)).collect()
+}
+
+fn report_plan(random: &mut Random) -> ReportPlan {
+    let whole_file = random.once_in(2);
+    let most = if random.once_in(4) { 16 } else { 3 };
+    let errors = (0..random.between(1, most)).map(|_| device_error(random)).collect();
+    ReportPlan {
+        offset: if whole_file { 0 } else { edge(random) },
+        length: if random.once_in(8) { edge(random) } else { u64::MAX },
+        stateid: random.fixed(),
+        errors,
+    }
+}
+
+fn device_error(random: &mut Random) -> DeviceError {
+    DeviceError {
+        device_id: random.fixed(),
+        status: if random.once_in(40) { 0 } else { random.next_u32() | 1 },
+        operation: if random.once_in(40) {
+            random.below(40) as u32
+        } else {
+            random.pick(&[5, 25, 38])
+        },
+    }
+}
+
+/// Reports with an output around their size, sometimes with other counts.
+fn add_report_write(cases: &mut CaseFileWriter, random: &mut Random) {
+    let plans = report_plans(random);
+    let size: usize = 8 + plans.iter().map(|plan| 36 + 24 * plan.errors.len()).sum::<usize>();
+    let output_length = match random.below(4) {
+        0 => random.below(size),
+        1 => size + random.below(9),
+        _ => size,
+    };
+    let mut case = case_of(&plans, output_length);
+    if random.once_in(6) && !plans.is_empty() {
+        let place = random.below(plans.len());
+        case.heads[place].error_count = random.pick(&[0, 1, 16, 17, 1 << 31, u32::MAX]);
+    }
+    if random.once_in(10) {
+        case.errors.pop();
+    }
+    if random.once_in(16) && plans.len() == 8 {
+        case.report_count = random.pick(&[9, 16, u32::MAX]);
+    }
+    cases.report_write(&case);
+}
+
+/// A record whose payload, or whose own first bytes, the file's end cuts.
+fn add_cut_record(cases: &mut CaseFileWriter, random: &mut Random) {
+    let mut record = CaseFileWriter::default();
+    add_case(&mut record, random);
+    let cut = random.between(1, record.bytes().len() - 1);
+    cases.raw(&record.bytes()[..cut]);
+}
+
+fn add_unknown_kind(cases: &mut CaseFileWriter, random: &mut Random) {
+    let unknown = [0, 2, 3, 6, 7, 8, 10, 63, 78, 79, 255, 256 + 64, 257, u16::MAX];
+    let length = random.below(20);
+    cases.record(random.pick(&unknown), &random.bytes(length));
+    add_case(cases, random);
+}
+
+/// A payload that is too long, or not of the form that its kind has.
+fn add_record_without_form(cases: &mut CaseFileWriter, random: &mut Random) {
+    match random.below(6) {
+        0 => cases.record(kind::LAYOUT_BODY, &[0; 16_001]),
+        1 => cases.record(kind::BIND, &vec![0; random.below(32)]),
+        // A layout length above the bytes that are there.
+        2 => cases.record(kind::BIND, &[[0; 28].as_slice(), &[5, 0, 0, 0, 1, 2, 3, 4]].concat()),
+        // An output above 4,096, a list above 128, and a byte too many.
+        3 => cases.record(kind::REPORT_WRITE, &[1, 16, 0, 0, 0, 0, 0, 0, 0, 0, 0, 0]),
+        4 => {
+            let head = [8, 0, 0, 0, 0, 0, 0, 0, 129, 0, 0, 0];
+            cases.record(kind::REPORT_WRITE, &[&head[..], &[1; 129 * 24]].concat());
+        }
+        _ => cases.record(kind::REPORT_WRITE, &[8, 0, 0, 0, 0, 0, 0, 0, 0, 0, 0, 0, 7]),
+    }
+    add_case(cases, random);
+}
+
+#[cfg(test)]
+mod tests {
+    use super::*;
+    use crate::cases::{CaseFile, Ending};
+
+    /// The number of cases read, and how the file ends.
+    fn read(bytes: &[u8]) -> (usize, Ending) {
+        let mut file = CaseFile::new(bytes);
+        let count = file.by_ref().count();
+        (count, file.ending())
+    }
+
+    #[test]
+    fn half_of_the_seeds_end_properly() {
+        for seed in 0..60 {
+            let bytes = random_file(seed, 20);
+            let (count, ending) = read(&bytes);
+            assert_eq!(count, 20, "seed {seed}");
+            let proper = ending == Ending::End(bytes.len());
+            assert_eq!(proper, seed % 6 < 3, "seed {seed}");
+        }
+    }
+
+    #[test]
+    fn the_same_seed_gives_the_same_file() {
+        assert_eq!(random_file(7, 50), random_file(7, 50));
+        assert_ne!(random_file(7, 50), random_file(8, 50));
+    }
+}

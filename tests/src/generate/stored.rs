@@ -1,0 +1,21 @@
+//! The case file that is stored in the repository.
+
+use super::{bindings, captured, devices, layout4s, layouts, reports_read, reports_written};
+use crate::cases::CaseFileWriter;
+use std::io;
+
+/// The stored case file. It always ends properly, and it fails only where the
+/// captures cannot be read.
+pub fn stored_file() -> io::Result<Vec<u8>> {
+    let captures = captured::read_captures()?;
+    let mut cases = CaseFileWriter::default();
+    captured::add_bodies(&mut cases, &captures);
+    captured::add_bindings(&mut cases, &captures);
+    layouts::add(&mut cases);
+    layout4s::add(&mut cases);
+    devices::add(&mut cases);
+    bindings::add(&mut cases);
+    reports_read::add(&mut cases);
+    reports_written::add(&mut cases);
+    Ok(cases.into_bytes())
+}

@@ -1,0 +1,51 @@
+//! Ranges of file bytes, at full 64 bits.
+
+use crate::refusal::Refusal;
+
+/// 01: "A range has a length above 0. A length of 2^64 - 1 means through byte
+/// 2^64 - 1, from any offset. Otherwise offset + length must be at most
+/// 2^64 - 1."
+pub fn check_range(offset: u64, length: u64) -> Result<(), Refusal> {
+    let sum_fits = offset.checked_add(length).is_some();
+    if length > 0 && (length == u64::MAX || sum_fits) {
+        Ok(())
+    } else {
+        Err(Refusal::BadRange)
+    }
+}
+
+#[cfg(test)]
+mod tests {
+    use super::*;
+
+    const MAX: u64 = u64::MAX;
+
+    #[test]
+    fn worked_example_at_the_last_byte() {
+        assert_eq!(check_range(MAX, MAX), Ok(()));
+        assert_eq!(check_range(MAX, 1), Err(Refusal::BadRange));
+        assert_eq!(check_range(MAX, 0), Err(Refusal::BadRange));
+    }
+
+    #[test]
+    fn length_zero_is_no_range() {
+        assert_eq!(check_range(0, 0), Err(Refusal::BadRange));
+    }
+
+    #[test]
+    fn the_longest_length_holds_from_any_offset() {
+        for offset in [0, 1, 1 << 32, 1 << 63, MAX - 1] {
+            assert_eq!(check_range(offset, MAX), Ok(()));
+        }
+    }
+
+    #[test]
+    fn the_sum_is_at_most_the_largest_number() {
+        assert_eq!(check_range(1, MAX - 1), Ok(()));
+        assert_eq!(check_range(2, MAX - 1), Err(Refusal::BadRange));
+        assert_eq!(check_range(MAX - 1, 1), Ok(()));
+        assert_eq!(check_range(MAX - 1, 2), Err(Refusal::BadRange));
+        assert_eq!(check_range(1 << 63, 1 << 63), Err(Refusal::BadRange));
+        assert_eq!(check_range(1 << 63, (1 << 63) - 1), Ok(()));
+    }
+}

@@ -1,0 +1,68 @@
+//! The refusal numbers of 01 that the wire part gives.
+
+/// Why an input is refused; the discriminant is the number in 01's table
+/// "Refusal numbers", and each comment is that table's condition.
+#[derive(Clone, Copy, Debug, PartialEq, Eq, Hash, PartialOrd, Ord)]
+#[repr(u8)]
+pub enum Refusal {
+    /// "the bytes run out before an item is complete"
+    BytesRunOut = 1,
+    /// "bytes are left over"
+    BytesLeftOver = 2,
+    /// "iomode is not allowed: a grant takes READ or RW"
+    IomodeNotAllowed = 3,
+    /// "layout type is not 4"
+    NotFlexibleFiles = 4,
+    /// "a range or I/O request breaks the rules above"
+    BadRange = 5,
+    /// "a padding byte is not 0"
+    PaddingNotZero = 6,
+    /// "a boolean is neither 0 nor 1"
+    BadBoolean = 7,
+    /// "a count or length is outside its limit", a set of versions above 15,
+    /// or an error list whose length "is not the counts' sum"
+    OutsideLimit = 8,
+    /// "a later mirror's server count differs from the first's"
+    ServerCountsDiffer = 9,
+    /// "unit and first server count disagree"
+    UnitDisagrees = 10,
+    /// "an unknown flag bit"
+    UnknownFlag = 11,
+    /// "a version entry breaks its rule"
+    BadVersionEntry = 12,
+    /// "device id, or filehandle and version counts, differ in binding"
+    DeviceDiffers = 13,
+    /// "no version that the caller speaks"
+    NoSupportedVersion = 14,
+    /// "the chosen entry is version 4, not tight, and the server's stateid is
+    /// not 16 zero bytes"
+    StateidNotAnonymous = 15,
+    /// "mirror or stripe number beyond the layout"
+    BeyondLayout = 16,
+    /// "the output is too short"
+    OutputTooShort = 26,
+    /// "an error's operation is not 5, 25 or 38 (COMMIT, READ, WRITE), or its
+    /// status is 0"
+    BadDeviceError = 27,
+}
+
+impl Refusal {
+    /// The number that 01 gives for this refusal.
+    pub fn number(self) -> u8 {
+        self as u8
+    }
+}
+
+#[cfg(test)]
+mod tests {
+    use super::Refusal;
+
+    #[test]
+    fn numbers_are_those_of_the_scope_paper() {
+        assert_eq!(Refusal::BytesRunOut.number(), 1);
+        assert_eq!(Refusal::OutsideLimit.number(), 8);
+        assert_eq!(Refusal::BeyondLayout.number(), 16);
+        assert_eq!(Refusal::OutputTooShort.number(), 26);
+        assert_eq!(Refusal::BadDeviceError.number(), 27);
+    }
+}
