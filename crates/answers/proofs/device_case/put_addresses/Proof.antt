@@ -1,0 +1,80 @@
+-- `answers::device_case::put_addresses` is safe and ends. The line keeps its length, and each turn leaves fewer of the eight places.
+use Prim.Native.Nat.{_-_}
+use borrow.Author.Needs.{needs}
+use lib.ListN.{length}
+use mathlib.Core.Path.{_≡_}
+use Rattle.answers.proofs.device_case.put_addresses.Statement.{statement}
+use Rattle.answers.proofs.device_case.put_addresses.Tie as tie
+
+abbrev Inv-loop : tie.InvT-loop
+Inv-loop line₀ at count addresses n₀ i₀ t10 t11 line n i = length line ≡ length line₀
+
+abbrev μ-loop : tie.MeasureT-loop
+μ-loop line₀ at count addresses n₀ i₀ t10 t11 line n i = 8 - i
+
+loop-holds : tie.Need-loop-holds Inv-loop μ-loop
+loop-holds c = search needs
+
+same-length : tie.Need-same-length Inv-loop μ-loop
+same-length c = search needs
+
+returns : tie.Need-returns Inv-loop μ-loop
+returns c = search needs
+
+slice-aggregate-put-between : tie.Need-slice-aggregate-put-between Inv-loop μ-loop
+slice-aggregate-put-between c = search needs
+
+put-between-requires : tie.Need-put-between-requires Inv-loop μ-loop
+put-between-requires c κs = search needs
+
+mul-a : tie.Need-mul-a Inv-loop μ-loop
+mul-a c = search needs
+
+array-copy-out-a : tie.Need-array-copy-out-a Inv-loop μ-loop
+array-copy-out-a c = search needs
+
+put-class-requires : tie.Need-put-class-requires Inv-loop μ-loop
+put-class-requires c κs = search needs
+
+slice-aggregate-put-part : tie.Need-slice-aggregate-put-part Inv-loop μ-loop
+slice-aggregate-put-part c = search needs
+
+put-part-requires : tie.Need-put-part-requires Inv-loop μ-loop
+put-part-requires c κs = search needs
+
+add-i : tie.Need-add-i Inv-loop μ-loop
+add-i c = search needs
+
+loop-less : tie.Need-loop-less Inv-loop μ-loop
+loop-less c = search needs
+
+loop-again : tie.Need-loop-again Inv-loop μ-loop
+loop-again c = search needs
+
+same-length-2 : tie.Need-same-length-2 Inv-loop μ-loop
+same-length-2 c = search needs
+
+returns-2 : tie.Need-returns-2 Inv-loop μ-loop
+returns-2 c = search needs
+
+pub put-addresses-spec : {M : Type 1} → statement M
+put-addresses-spec =
+    tie.close
+    (tie.spec
+    Inv-loop
+    μ-loop
+    loop-holds
+    same-length
+    returns
+    slice-aggregate-put-between
+    put-between-requires
+    mul-a
+    array-copy-out-a
+    put-class-requires
+    slice-aggregate-put-part
+    put-part-requires
+    add-i
+    loop-less
+    loop-again
+    same-length-2
+    returns-2)

@@ -1,0 +1,128 @@
+-- Laws of reports: the arrays that are filled report by report, and what an accepted report says of its stateid.
+use Prim.Native.Nat.{ℕ, _+_, _-_, _≤_, _<_}
+use mathlib.Core.Path.{_≡_, refl, sym, ap, _∙_}
+use mathlib.Core.List.{List, [], _∷_, _++_, append-nil, map, map-append}
+use native.Mathlib.Omega.{arith}
+use borrow.Author.Tests.{eq-eqb}
+use lib.ListN.{length, set, length-map, length-take, length-drop}
+use lib.Seq.{append-snoc}
+use Rattle.base.specs.Answer.{Answer, accepted, refused, given, pick}
+use Rattle.numbers.specs.Numbers.{bytesFrom}
+use Rattle.numbers.proofs.NumberLaws.{length-bytes}
+use Rattle.xdr.specs.Res.{Res, ok, no, then, whole, manyAt}
+use Rattle.xdr.specs.Items.{countAt}
+use Rattle.xdr.proofs.Accepted.{ran, same-value, same-place}
+use Rattle.report.specs.Reports.{headAt, Report, reportAt, reportBody}
+use Rattle.report.specs.Answers.{arraysFrom, blankHead, countOf, headFrom, headsOf, placesOf, reportsIn}
+use Rattle.report.specs.declared.ReportHead.{ReportHead}
+use Rattle.report.specs.declared.head.HeadItem.{HeadItem}
+use Rattle.report.proofs.Runs.{bytes-inside, many-none, many-then, padded-next}
+
+-- ---- the arrays
+
+pub heads-next : (done : List Report) (i : ℕ) (r : Report) → length done ≡ i → i < 8
+    → set (headsOf done) i (r .head) ≡ headsOf (done ++ (r ∷ []))
+heads-next done i r h k =
+    let f : Report → ReportHead = λ r. r .head in
+    let n : length (map f done) ≡ i = length-map done f ∙ h in
+    rw (map-append f done (r ∷ [])) (padded-next blankHead (map f done) i (r .head) n k)
+
+pub places-next : (done : List Report) (i : ℕ) (r : Report) → length done ≡ i → i < 8
+    → set (placesOf done) i (r .errors-at) ≡ placesOf (done ++ (r ∷ []))
+places-next done i r h k =
+    let f : Report → ℕ = λ r. r .errors-at in
+    let n : length (map f done) ≡ i = length-map done f ∙ h in
+    rw (map-append f done (r ∷ [])) (padded-next 0 (map f done) i (r .errors-at) n k)
+
+abbrev arrays : List Report → ℕ → Res (List ReportHead × List ℕ)
+arrays rs q = ok (headsOf rs, placesOf rs) q
+
+pub arrays-next : (done : List Report) (m : ℕ) (s : List ℕ) (at : ℕ) (r : Report) (p : ℕ) → 0 < m → reportAt s at ≡ ok r p
+    → arraysFrom done (manyAt reportAt m s at) ≡ arraysFrom (done ++ (r ∷ [])) (manyAt reportAt (m - 1) s p)
+unfolding arraysFrom then
+arrays-next done m s at r p h e =
+    rw (many-then reportAt m s at (λ rs q. arrays (done ++ rs) q) h, e) (go (manyAt reportAt (m - 1) s p)) where
+      go : (x : Res (List Report))
+          → then x (λ rs q. arrays (done ++ (r ∷ rs)) q)
+          ≡ then x (λ rs q. arrays (done ++ (r ∷ []) ++ rs) q)
+      go (ok rs q) = rw (append-snoc done r rs)
+      go (no n) = refl
+
+pub arrays-refused : (done : List Report) (m : ℕ) (s : List ℕ) (at n : ℕ) → 0 < m → reportAt s at ≡ no n
+    → arraysFrom done (manyAt reportAt m s at) ≡ no n
+unfolding arraysFrom then
+arrays-refused done m s at n h e = rw (many-then reportAt m s at (λ rs q. arrays (done ++ rs) q) h, e)
+
+pub arrays-done : (done : List Report) (m : ℕ) (s : List ℕ) (at : ℕ) → m ≡ 0
+    → arraysFrom done (manyAt reportAt m s at) ≡ ok (headsOf done, placesOf done) at
+unfolding arraysFrom then
+arrays-done done m s at h = rw (many-none reportAt m s at h, append-nil done)
+
+pub arrays-no : (x : Res (List Report)) (n : ℕ) → arraysFrom [] x ≡ no n → x ≡ no n
+unfolding arraysFrom then
+arrays-no (ok rs p) n h = let z : _≡_ {A = ℕ} 0 1 = cc in absurd (omega arith)
+arrays-no (no k) n h = let e : k ≡ n = cc in rw e
+
+pub record Arrays (x : Res (List Report)) (hs : List ReportHead) (ps : List ℕ) (p : ℕ) : Type 0 where
+  pub reports : List Report
+  pub were : x ≡ ok reports p
+  pub heads : hs ≡ headsOf reports
+  pub places : ps ≡ placesOf reports
+
+pub arrays-ok : (x : Res (List Report)) (hs : List ReportHead) (ps : List ℕ) (p : ℕ) → arraysFrom [] x ≡ ok (hs, ps) p → Arrays x hs ps p
+unfolding arraysFrom then
+arrays-ok (ok rs q) hs ps p h =
+    let e : _≡_ {A = List ReportHead × List ℕ} (headsOf rs, placesOf rs) (hs, ps) = same-value h in
+    record { reports = rs; were = ap (ok rs) (same-place h); heads = sym (ap (λ (x : List ReportHead × List ℕ). x .0) e); places = sym (ap (λ (x : List ReportHead × List ℕ). x .1) e) }
+arrays-ok (no k) hs ps p h = let z : _≡_ {A = ℕ} 0 1 = cc in absurd (omega arith)
+
+-- ---- the whole answer, by what the body is
+
+pub answer-refused : (b : Answer (List Report)) (n : ℕ) (a : Answer ℕ) (hs : List ReportHead) (ps : List ℕ) → b ≡ refused n
+    → (a ≡ refused n) × (hs ≡ headsOf []) × (ps ≡ placesOf [])
+    → (a ≡ countOf b) × (hs ≡ headsOf (reportsIn b)) × (ps ≡ placesOf (reportsIn b))
+unfolding countOf given
+answer-refused b n a hs ps e k = rw e k
+
+pub answer-accepted : (b : Answer (List Report)) (rs : List Report) (a : Answer ℕ) (hs : List ReportHead) (ps : List ℕ) → b ≡ accepted rs
+    → (a ≡ accepted (length rs)) × (hs ≡ headsOf rs) × (ps ≡ placesOf rs)
+    → (a ≡ countOf b) × (hs ≡ headsOf (reportsIn b)) × (ps ≡ placesOf (reportsIn b))
+unfolding countOf given
+answer-accepted b rs a hs ps e k = rw e k
+
+-- the parts of an accepted body
+pub body-accepted : (s : List ℕ) (n p : ℕ) (rs : List Report) (q k z : ℕ) → countAt 0 8 s 0 ≡ ok n p → manyAt reportAt n s p ≡ ok rs q
+    → countAt 0 0 s q ≡ ok k z → z ≡ length s → reportBody s ≡ accepted rs
+unfolding reportBody then whole pick
+body-accepted s n p rs q k z a b c d = rw (a, b, c, eq-eqb z (length s) d)
+
+-- ---- an accepted report has a stateid of 16 bytes
+
+pub head-stateid : (s : List ℕ) (at : ℕ) (h : ReportHead) (p : ℕ) → headAt s at ≡ ok h p → length (h .stateid) ≡ 16
+unfolding headAt
+head-stateid s at h p e =
+    let a = ran _ _ _ _ e in
+    let b = ran _ _ _ _ (a .rest) in
+    let c = ran _ _ _ _ (b .rest) in
+    let d = ran _ _ _ _ (c .rest) in
+    let f = ran _ _ _ _ (d .rest) in
+    let k : h .stateid ≡ bytesFrom 16 s (d .item .start) = ap (λ (x : ReportHead). x .stateid) (sym (same-value (f .rest))) in
+    k-length (d .item .start) k (bytes-inside 16 s _ _ _ (d .first)) where
+      k-length : (start : ℕ) → h .stateid ≡ bytesFrom 16 s start → start + 16 ≤ length s → length (h .stateid) ≡ 16
+      k-length start k n = ap length k ∙ length-bytes 16 s start n
+
+pub report-stateid : (s : List ℕ) (at : ℕ) (r : Report) (p : ℕ) → reportAt s at ≡ ok r p → length (r .head .stateid) ≡ 16
+unfolding reportAt
+report-stateid s at r p e =
+    let a = ran _ _ _ _ e in
+    let b = ran _ _ _ _ (a .rest) in
+    let k : a .item ≡ r .head = ap (λ (x : Report). x .head) (same-value (b .rest)) in
+    ap (λ (h : ReportHead). length (h .stateid)) (sym k) ∙ head-stateid s at _ _ (a .first)
+
+-- so a stateid that stands in the bytes stands there whole
+pub stateid-inside : (s : List ℕ) (at first : ℕ) (h : HeadItem) (p : ℕ)
+    → reportAt s at ≡ ok (record { head = headFrom s h; errors-at = first }) p → h .stateid + 16 ≤ length s
+stateid-inside s at first h p e =
+    let n : length (bytesFrom 16 s (h .stateid)) ≡ 16 = report-stateid s at _ p e in
+    let m = simp (length-take, length-drop) at n in
+    omega (arith, m)

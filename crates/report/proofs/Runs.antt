@@ -1,0 +1,142 @@
+-- Laws of items read one after the other: a run's steps, what an accepted run went through, and how many items it has.
+use Prim.Native.Nat.{ℕ, zero, suc, _+_, _-_, _≤_, _<_}
+use mathlib.Core.Path.{_≡_, refl, sym, ap, _∙_}
+use mathlib.Core.Bool.{Bool, true, false, _&&_}
+use mathlib.Core.List.{List, [], _∷_, _++_, append-nil}
+use native.Mathlib.Omega.{arith}
+use native.Mathlib.Numerals.{add-one}
+use borrow.Author.Tests.{leb-true}
+use lib.Dec.{leb}
+use lib.ListN.{length, drop, getD, replicate, set, length-append, length-drop}
+use lib.Seq.{append-snoc, set-at, take-suc, getD-drop}
+use Rattle.base.specs.Answer.{pick}
+use Rattle.numbers.specs.Numbers.{beValue, bytesFrom}
+use Rattle.xdr.specs.Res.{Res, ok, no, then, manyAt}
+use Rattle.xdr.specs.Items.{allZero, bytesAt, countAt, numAt, padding}
+use Rattle.xdr.specs.declared.Part.{Part}
+use Rattle.xdr.proofs.Accepted.{Ran, both, ran, same-value}
+use Rattle.report.specs.Reports.{errorAt, errorsEnd, headAt, Report, reportAt}
+use Rattle.report.specs.Answers.{padded}
+use Rattle.report.specs.declared.ReportHead.{ReportHead}
+
+pub many-none : {A : Type 0} (item : List ℕ → ℕ → Res A) (n : ℕ) (s : List ℕ) (at : ℕ) → n ≡ 0 → manyAt item n s at ≡ ok [] at
+unfolding manyAt
+many-none item n s at h = rw h
+
+pub many-next : {A : Type 0} (item : List ℕ → ℕ → Res A) (n : ℕ) (s : List ℕ) (at : ℕ) → 0 < n
+    → manyAt item n s at ≡ then (item s at) (λ x p. then (manyAt item (n - 1) s p) λ xs q. ok (x ∷ xs) q)
+unfolding manyAt
+many-next item zero s at h = absurd (omega arith)
+many-next item (suc n) s at h = let e : suc n - 1 ≡ n = omega arith in rw e
+
+-- ---- then, taken apart
+
+pub then-then : {A B C : Type 0} (x : Res A) (f : A → ℕ → Res B) (g : B → ℕ → Res C)
+    → then (then x f) g ≡ then x (λ a p. then (f a p) g)
+unfolding then
+then-then (ok a p) f g = refl
+then-then (no n) f g = refl
+
+-- the first item of a run apart, whatever the run is for
+pub many-then : {A C : Type 0} (item : List ℕ → ℕ → Res A) (n : ℕ) (s : List ℕ) (at : ℕ) (f : List A → ℕ → Res C) → 0 < n
+    → then (manyAt item n s at) f ≡ then (item s at) (λ x p. then (manyAt item (n - 1) s p) λ xs q. f (x ∷ xs) q)
+unfolding then
+many-then {A} {C} item n s at f h = rw (many-next item n s at h) (go (item s at)) where
+  go : (x : Res A)
+      → then (then x λ a p. then (manyAt item (n - 1) s p) λ xs q. ok (a ∷ xs) q) f
+      ≡ then x (λ a p. then (manyAt item (n - 1) s p) λ xs q. f (a ∷ xs) q)
+  go (ok a p) = then-then (manyAt item (n - 1) s p) (λ xs q. ok (a ∷ xs) q) f
+  go (no k) = refl
+
+-- ---- where a run of errors ends
+
+pub errors-none : (n : ℕ) (s : List ℕ) (at : ℕ) → n ≡ 0 → errorsEnd n s at ≡ ok tt at
+unfolding errorsEnd then
+errors-none n s at h = rw (many-none errorAt n s at h)
+
+pub errors-next : (n : ℕ) (s : List ℕ) (at : ℕ) → 0 < n → errorsEnd n s at ≡ then (errorAt s at) (λ e p. errorsEnd (n - 1) s p)
+unfolding errorsEnd
+errors-next n s at h = many-then errorAt n s at (λ es p. ok tt p) h
+
+abbrev ended : ℕ → Res (Unit {0})
+ended q = ok tt q
+
+abbrev reported : ReportHead → ℕ → ℕ → Res Report
+reported h p q = ok (record { head = h; errors-at = p }) q
+
+-- a report by the place where its errors end
+pub report-ends : (s : List ℕ) (at : ℕ)
+    → reportAt s at ≡ then (headAt s at) (λ h p. then (errorsEnd (h .errors) s p) λ u q. reported h p q)
+unfolding reportAt errorsEnd then
+report-ends s at = go (headAt s at) where
+  go : (x : Res ReportHead)
+      → then x (λ h p. then (manyAt errorAt (h .errors) s p) λ es q. reported h p q)
+      ≡ then x (λ h p. then (then (manyAt errorAt (h .errors) s p) λ es q. ended q) λ u q. reported h p q)
+  go (ok h p) = sym (then-then (manyAt errorAt (h .errors) s p) (λ es q. ended q) (λ u q. reported h p q))
+  go (no n) = refl
+
+-- ---- an accepted number, an accepted run of bytes
+
+pub pick-ok : {A : Type 0} (t : Bool) (x : Res A) (n : ℕ) (a : A) (p : ℕ) → pick t x (no n) ≡ ok a p → (t ≡ true) × (x ≡ ok a p)
+unfolding pick
+pick-ok true x n a p h = (refl, h)
+pick-ok false x n a p h = let z : _≡_ {A = ℕ} 0 1 = cc in absurd (omega arith)
+
+pub num-ran : (k : ℕ) (s : List ℕ) (at v p : ℕ) → numAt k s at ≡ ok v p
+    → (at + k ≤ length s) × (v ≡ beValue (bytesFrom k s at)) × (p ≡ at + k)
+unfolding numAt
+num-ran k s at v p h =
+    let g = pick-ok (leb (at + k) (length s)) (ok (beValue (bytesFrom k s at)) (at + k)) 1 v p h in
+    let e = g .1 in
+    (leb-true (at + k) (length s) (g .0), cc e, cc e)
+
+pub bytes-ran : (n : ℕ) (s : List ℕ) (at : ℕ) (x : Part) (p : ℕ) → bytesAt n s at ≡ ok x p
+    → (at + n + padding n ≤ length s) × (x ≡ record { start = at; len = n }) × (p ≡ at + n + padding n)
+unfolding bytesAt
+bytes-ran n s at x p h =
+    let y : Res Part = ok (record { start = at; len = n }) (at + n + padding n) in
+    let z = allZero (bytesFrom (padding n) s (at + n)) in
+    let g = pick-ok (leb (at + n + padding n) (length s)) (pick z y (no 6)) 1 x p h in
+    let e = pick-ok z y 6 x p (g .1) .1 in
+    (leb-true (at + n + padding n) (length s) (g .0), cc e, cc e)
+
+pub bytes-inside : (n : ℕ) (s : List ℕ) (at : ℕ) (x : Part) (p : ℕ) → bytesAt n s at ≡ ok x p → x .start + n ≤ length s
+bytes-inside n s at x p h = let g = bytes-ran n s at x p h in rw (g .1) (omega (arith, g .0))
+
+pub count-ran : (lo hi : ℕ) (s : List ℕ) (at n p : ℕ) → countAt lo hi s at ≡ ok n p → (numAt 4 s at ≡ ok n p) × (lo ≤ n) × (n ≤ hi)
+unfolding countAt
+count-ran lo hi s at n p h = go (ran _ _ _ _ h) where
+  go : Ran (numAt 4 s at) (λ m q. pick (leb lo m && leb m hi) (ok m q) (no 8)) n p → (numAt 4 s at ≡ ok n p) × (lo ≤ n) × (n ≤ hi)
+  go r =
+      let g = pick-ok (leb lo (r .item) && leb (r .item) hi) (ok (r .item) (r .next)) 8 n p (r .rest) in
+      let b = both (leb lo (r .item)) (leb (r .item) hi) (g .0) in
+      let e : r .item ≡ n = same-value (g .1) in
+      let m : lo ≤ r .item = leb-true lo (r .item) (b .0) in
+      let k : r .item ≤ hi = leb-true (r .item) hi (b .1) in
+      (r .first ∙ g .1, omega arith, omega arith)
+
+-- ---- arrays that are filled from the front
+
+pub padded-set : {A : Type 0} (xs : List A) (m i : ℕ) (d a : A) → length xs ≡ i → 0 < m
+    → set (xs ++ replicate m d) i a ≡ xs ++ (a ∷ []) ++ replicate (m - 1) d
+padded-set xs zero i d a h k = absurd (omega arith)
+padded-set xs (suc m) i d a h k =
+    let e : suc m - 1 ≡ m = omega arith in
+    rw (e, append-snoc xs a (replicate m d)) (set-at xs d (replicate m d) a i h)
+
+-- one more byte at the end
+pub next-byte-last : (i : ℕ) (s : List ℕ) (at : ℕ) → at + i < length s → bytesFrom (i + 1) s at ≡ bytesFrom i s at ++ (getD s (at + i) 0 ∷ [])
+next-byte-last i s at h =
+    let k : i < length (drop at s) = simp length-drop (omega arith) in
+    rw (add-one i, take-suc (drop at s) i 0 k, getD-drop)
+
+pub padded-full : (i n : ℕ) (s : List ℕ) (at : ℕ) → i ≡ n → bytesFrom i s at ++ replicate (n - i) 0 ≡ bytesFrom n s at
+padded-full i n s at h = let e : n - i ≡ 0 = omega arith in rw (e, h) (append-nil (bytesFrom n s at))
+
+-- one more place of an array of 8
+pub padded-next : {A : Type 0} (d : A) (xs : List A) (i : ℕ) (a : A) → length xs ≡ i → i < 8
+    → set (padded d xs) i a ≡ padded d (xs ++ (a ∷ []))
+padded-next d xs i a h k =
+    let e : 8 - length (xs ++ (a ∷ [])) ≡ 8 - length xs - 1 = simp length-append (omega arith) in
+    let m : 0 < 8 - length xs = omega arith in
+    rw (e, padded-set xs (8 - length xs) i d a h m)

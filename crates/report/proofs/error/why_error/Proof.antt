@@ -1,0 +1,21 @@
+-- `report::error::why_error` meets its contract.
+use Rattle.report.specs.Answers.{whyError}
+use borrow.Author.Needs.{needs}
+use mathlib.Core.Path.{sym, ap}
+use Rattle.report.proofs.error.why_error.Statement.{statement}
+use Rattle.report.proofs.error.why_error.Tie as tie
+
+enum-known-r : tie.Need-enum-known-r
+enum-known-r c = search needs
+
+enum-told : tie.Need-enum-told
+enum-told c = search needs
+
+returns : tie.Need-returns
+returns c = sym (ap whyError (c .before .r .given .1))
+
+returns-2 : tie.Need-returns-2
+returns-2 c = search needs
+
+pub why-error-spec : {M : Type 1} → statement M
+why-error-spec = tie.close (tie.spec enum-known-r enum-told returns returns-2)

@@ -1,0 +1,68 @@
+-- `report::head::read_report` meets its contract: the head, then its errors.
+use Rattle.report.proofs.Runs.{report-ends}
+use Rattle.report.specs.Answers.{resEnd, resHead, whyEnd, whyHead}
+use Rattle.xdr.proofs.Steps.{came, handed}
+use Rattle.xdr.specs.Res.{no, then}
+use borrow.Author.Needs.{needs}
+use denote.Ref.{now}
+use mathlib.Core.Path.{refl}
+use Rattle.report.proofs.head.read_report.Statement.{statement}
+use Rattle.report.proofs.head.read_report.Tie as tie
+
+read-head-requires : tie.Need-read-head-requires
+read-head-requires c κs = search needs
+
+enum-known-rh : tie.Need-enum-known-rh
+enum-known-rh c = search needs
+
+enum-told : tie.Need-enum-told
+enum-told c = search needs
+
+why-head-requires : tie.Need-why-head-requires
+why-head-requires c κs = search needs
+
+returns : tie.Need-returns
+unfolding then
+returns c =
+    let s = now (c .before .before .before .before .before .args .s) in
+    rw (report-ends s (c .before .before .before .before .before .args .c .at), handed (resHead s) whyHead no (c .before .before .before .read-head .ensures) (c .before .enum-told .given .1) (c .why-head .ensures) refl)
+
+read-errors-requires : tie.Need-read-errors-requires
+read-errors-requires c κs = search needs
+
+enum-known-re : tie.Need-enum-known-re
+enum-known-re c = search needs
+
+enum-told-2 : tie.Need-enum-told-2
+enum-told-2 c = search needs
+
+why-end-requires : tie.Need-why-end-requires
+why-end-requires c κs = search needs
+
+returns-2 : tie.Need-returns-2
+unfolding then
+returns-2 c =
+    let s = now (c .before .before .before .before .before .before .before .before .before .args .s) in
+    rw (report-ends s (c .before .before .before .before .before .before .before .before .before .args .c .at), came (resHead s) (c .before .before .before .before .before .before .before .read-head .ensures) (c .before .before .before .before .before .rh .given .1), handed resEnd whyEnd no (c .before .before .before .read-errors .ensures) (c .before .enum-told2 .given .1) (c .why-end .ensures) refl)
+
+returns-3 : tie.Need-returns-3
+unfolding then
+returns-3 c =
+    let s = now (c .before .before .before .before .before .before .before .before .before .args .s) in
+    rw (report-ends s (c .before .before .before .before .before .before .before .before .before .args .c .at), came (resHead s) (c .before .before .before .before .before .before .before .read-head .ensures) (c .before .before .before .before .before .rh .given .1), came resEnd (c .before .before .before .read-errors .ensures) (c .before .re .given .1))
+
+pub read-report-spec : {M : Type 1} → statement M
+read-report-spec =
+    tie.close
+    (tie.spec
+    read-head-requires
+    enum-known-rh
+    enum-told
+    why-head-requires
+    returns
+    read-errors-requires
+    enum-known-re
+    enum-told-2
+    why-end-requires
+    returns-2
+    returns-3)

@@ -1,0 +1,98 @@
+-- What the answers say: the values, or the number; and the arrays beside them.
+use Prim.Native.Nat.{ℕ, _-_}
+use mathlib.Core.List.{List, [], _++_, map}
+use lib.ListN.{length, replicate}
+use Rattle.base.specs.Answer.{Answer, accepted, refused, given}
+use Rattle.base.specs.Refusals.{numberOf}
+use Rattle.base.specs.declared.refusal.Refusal.{Refusal}
+use Rattle.base.specs.declared.refusal.Refusal.the-variants.{BytesRunOut}
+use Rattle.numbers.specs.Numbers.{bytesFrom}
+use Rattle.xdr.specs.Res.{Res, ok, no, then}
+use Rattle.report.specs.Reports.{Report}
+use Rattle.report.specs.declared.ErrorItem.{ErrorItem}
+use Rattle.report.specs.declared.ReportHead.{ReportHead}
+use Rattle.report.specs.declared.body.ReportAnswer.{ReportAnswer}
+use Rattle.report.specs.declared.body.ReportAnswer.the-variants as answer
+use Rattle.report.specs.declared.error.ReadEnd.{ReadEnd}
+use Rattle.report.specs.declared.error.ReadEnd.the-variants as end
+use Rattle.report.specs.declared.error.ReadError.{ReadError}
+use Rattle.report.specs.declared.error.ReadError.the-variants as error
+use Rattle.report.specs.declared.head.HeadItem.{HeadItem}
+use Rattle.report.specs.declared.head.ReadHead.{ReadHead}
+use Rattle.report.specs.declared.head.ReadHead.the-variants as head
+use Rattle.report.specs.declared.head.ReadReport.{ReadReport}
+use Rattle.report.specs.declared.head.ReadReport.the-variants as report
+
+abbrev pub resError : ReadError → Res ErrorItem
+resError (error.Value e c) = ok e (c .at)
+resError (error.Refused e) = no (numberOf e)
+
+abbrev pub resEnd : ReadEnd → Res (Unit {0})
+resEnd (end.Value c) = ok tt (c .at)
+resEnd (end.Refused e) = no (numberOf e)
+
+-- a head whose stateid stands in the bytes s
+abbrev pub headFrom : List ℕ → HeadItem → ReportHead
+headFrom s h = record { offset = h .offset; length = h .length; stateid = bytesFrom 16 s (h .stateid); errors = h .errors }
+
+abbrev pub resHead : List ℕ → ReadHead → Res ReportHead
+resHead s (head.Value h c) = ok (headFrom s h) (c .at)
+resHead s (head.Refused e) = no (numberOf e)
+
+abbrev pub resReport : List ℕ → ReadReport → Res Report
+resReport s (report.Value h first c) = ok (record { head = headFrom s h; errors-at = first }) (c .at)
+resReport s (report.Refused e) = no (numberOf e)
+
+-- ---- the arrays of 8 places
+
+abbrev pub blankHead : ReportHead
+blankHead = record { offset = 0; length = 0; stateid = replicate 16 0; errors = 0 }
+
+-- an array of 8 places, blank past the list
+abbrev pub padded : {A : Type 0} → A → List A → List A
+padded blank xs = xs ++ replicate (8 - length xs) blank
+
+abbrev pub headsOf : List Report → List ReportHead
+headsOf rs = padded blankHead (map (λ (r : Report). r .head) rs)
+
+-- where the first error of each report stands
+abbrev pub placesOf : List Report → List ℕ
+placesOf rs = padded 0 (map (λ (r : Report). r .errors-at) rs)
+
+-- a refusal "gives its number, no other result"
+abbrev pub reportsIn : Answer (List Report) → List Report
+reportsIn (accepted rs) = rs
+reportsIn (refused n) = []
+
+unfoldable pub countOf : Answer (List Report) → Answer ℕ
+countOf a = given a λ rs. accepted (length rs)
+
+abbrev pub answerCount : ReportAnswer → Answer ℕ
+answerCount (answer.Count n) = accepted n
+answerCount (answer.Refused e) = refused (numberOf e)
+
+-- both arrays, where the reports behind the ones already read were read
+unfoldable pub arraysFrom : List Report → Res (List Report) → Res (List ReportHead × List ℕ)
+arraysFrom done x = then x λ rs p. ok (headsOf (done ++ rs), placesOf (done ++ rs)) p
+
+abbrev pub resArrays : ReadEnd → List ReportHead → List ℕ → Res (List ReportHead × List ℕ)
+resArrays (end.Value c) heads places = ok (heads, places) (c .at)
+resArrays (end.Refused e) heads places = no (numberOf e)
+
+-- ---- the refusal in an answer; of an answer with a value, the first of the refusals
+
+abbrev pub whyError : ReadError → Refusal
+whyError (error.Value e c) = BytesRunOut
+whyError (error.Refused e) = e
+
+abbrev pub whyEnd : ReadEnd → Refusal
+whyEnd (end.Value c) = BytesRunOut
+whyEnd (end.Refused e) = e
+
+abbrev pub whyHead : ReadHead → Refusal
+whyHead (head.Value h c) = BytesRunOut
+whyHead (head.Refused e) = e
+
+abbrev pub whyReport : ReadReport → Refusal
+whyReport (report.Value h first c) = BytesRunOut
+whyReport (report.Refused e) = e

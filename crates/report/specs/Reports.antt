@@ -1,0 +1,62 @@
+-- Error reports: "Report count (0 to 8), reports, then a statistics count that must be 0 (else 8)."
+use Prim.Native.Nat.{ℕ}
+use mathlib.Core.List.{List}
+use mathlib.Core.Bool.{Bool, _&&_, _||_, not}
+use lib.ListN.{length}
+use lib.Dec.{eqb}
+use Rattle.base.specs.Answer.{Answer, pick}
+use Rattle.base.specs.Ranges.{rangeLast}
+use Rattle.numbers.specs.Numbers.{bytesFrom}
+use Rattle.xdr.specs.Res.{Res, ok, no, then, manyAt, whole, inside}
+use Rattle.xdr.specs.Items.{numAt, countAt, bytesAt}
+use Rattle.report.specs.declared.ErrorItem.{ErrorItem}
+use Rattle.report.specs.declared.ReportHead.{ReportHead}
+
+-- "an error's operation is not 5, 25 or 38 (COMMIT, READ, WRITE), or its status is 0": 27; this is the contrary
+unfoldable pub errorFits : ℕ → ℕ → Bool
+errorFits status operation = not (eqb status 0) && (eqb operation 5 || (eqb operation 25 || eqb operation 38))
+
+-- "errors of device id, status, operation; an error is judged when all three are read"
+unfoldable pub errorAt : List ℕ → ℕ → Res ErrorItem
+errorAt s at =
+    then (bytesAt 16 s at) λ device p1.
+    then (numAt 4 s p1) λ status p2.
+    then (numAt 4 s p2) λ operation p3.
+    pick (errorFits status operation)
+    (ok (record { device = device .start; status = status; operation = operation }) p3)
+    (no 27)
+
+-- where a run of errors ends
+unfoldable pub errorsEnd : ℕ → List ℕ → ℕ → Res (Unit {0})
+errorsEnd n s at = then (manyAt errorAt n s at) λ es p. ok tt p
+
+-- "offset, length (the pair obeys the range rule, judged here), stateid, error count (1 to 16)"
+unfoldable pub headAt : List ℕ → ℕ → Res ReportHead
+headAt s at =
+    then (numAt 8 s at) λ offset p1.
+    then (numAt 8 s p1) λ len p2.
+    then (inside (rangeLast offset len) p2) λ last p.
+    then (bytesAt 16 s p) λ stateid p3.
+    then (countAt 1 16 s p3) λ n p4.
+    ok (record { offset = offset; length = len; stateid = bytesFrom 16 s (stateid .start); errors = n }) p4
+
+-- a report that was read: what stands before its errors, and the place of the first of them
+pub record Report : Type 0 where
+  pub head : ReportHead
+  pub errors-at : ℕ
+
+-- "A report: .. errors"
+unfoldable pub reportAt : List ℕ → ℕ → Res Report
+reportAt s at =
+    then (headAt s at) λ h p.
+    then (manyAt errorAt (h .errors) s p) λ es q.
+    ok (record { head = h; errors-at = p }) q
+
+-- "Report count (0 to 8), reports, then a statistics count that must be 0 (else 8). .. Nothing may follow the body."
+unfoldable pub reportBody : List ℕ → Answer (List Report)
+reportBody s =
+    whole s
+    (then (countAt 0 8 s 0) λ n p.
+    then (manyAt reportAt n s p) λ rs q.
+    then (countAt 0 0 s q) λ statistics z.
+    ok rs z)

@@ -1,0 +1,131 @@
+// The whole body: the reports, the statistics count, and the end.
+use crate::ReportHead;
+use crate::error::ReadEnd;
+use crate::error::why_end;
+use crate::head::ReadReport;
+use crate::head::head_of;
+use crate::head::read_report;
+use crate::head::why_report;
+use base::Refusal;
+use xdr::Cursor;
+use xdr::ReadU32;
+ghost use mathlib.Core.Path.{_≡_};
+ghost use Prim.Native.Nat.{_≤_};
+ghost use mathlib.Core.List.{[]};
+ghost use Rattle.base.specs.Answer.{refused as refusedBy};
+ghost use Rattle.base.specs.Refusals.{numberOf};
+ghost use Rattle.xdr.specs.Res.{manyAt};
+ghost use Rattle.report.specs.Reports.{reportAt, reportBody};
+ghost use Rattle.report.specs.Answers.{answerCount, blankHead, countOf, headsOf, placesOf, reportsIn, resArrays, arraysFrom};
+
+pub enum ReportAnswer {
+    Count(u32),
+    Refused(Refusal),
+}
+
+// The reports' heads, and where the first error of each stands. Places past the count are blank, and so is each after a refusal.
+pub struct ReportsRead {
+    pub answer: ReportAnswer,
+    pub heads: [ReportHead; 8],
+    pub errors_at: [usize; 8],
+}
+
+// The same, before the rest of the body is read.
+pub struct Arrays {
+    pub end: ReadEnd,
+    pub heads: [ReportHead; 8],
+    pub errors_at: [usize; 8],
+}
+
+fn blank_head() -> ReportHead
+    ensures { λ r. ⌜ r ≡ blankHead ⌝ }
+{
+    let stateid = [0u8; 16];
+    ReportHead {
+        offset: 0,
+        length: 0,
+        stateid: stateid,
+        errors: 0,
+    }
+}
+
+fn read_arrays(s: &[u8], c: Cursor, n: u32) -> Arrays
+    requires { ⌜ n ≤ 8 ⌝ }
+    ensures { λ r. ⌜ resArrays (r .end) (r .heads) (r .«errors_at») ≡ arraysFrom [] (manyAt reportAt n (now (s .entry)) (c .at)) ⌝ }
+{
+    let blank = blank_head();
+    let mut heads = [blank; 8];
+    let mut errors_at = [0usize; 8];
+    let mut d = c;
+    let mut i: usize = 0;
+    let count = n as usize;
+    while i < count {
+        let r = read_report(s, d);
+        let ReadReport::Value(item, first, e) = r else {
+            let why = why_report(r);
+            let end = ReadEnd::Refused(why);
+            return Arrays {
+                end: end,
+                heads: heads,
+                errors_at: errors_at,
+            };
+        };
+        let head = head_of(s, item);
+        heads[i] = head;
+        errors_at[i] = first;
+        d = e;
+        i += 1;
+    }
+    let end = ReadEnd::Value(d);
+    Arrays {
+        end: end,
+        heads: heads,
+        errors_at: errors_at,
+    }
+}
+
+fn refused(e: Refusal) -> ReportsRead
+    ensures { λ r. ⌜ (answerCount (r .answer) ≡ refusedBy (numberOf e)) × (r .heads ≡ headsOf []) × (r .«errors_at» ≡ placesOf []) ⌝ }
+{
+    let blank = blank_head();
+    let heads = [blank; 8];
+    let errors_at = [0usize; 8];
+    let answer = ReportAnswer::Refused(e);
+    ReportsRead {
+        answer: answer,
+        heads: heads,
+        errors_at: errors_at,
+    }
+}
+
+// The `ff_layoutreturn4` body.
+pub fn read_reports(s: &[u8]) -> ReportsRead
+    ensures { λ r. ⌜ (answerCount (r .answer) ≡ countOf (reportBody (now (s .entry))))
+        × (r .heads ≡ headsOf (reportsIn (reportBody (now (s .entry)))))
+        × (r .«errors_at» ≡ placesOf (reportsIn (reportBody (now (s .entry))))) ⌝ }
+{
+    let rn = xdr::read_count(s, Cursor { at: 0 }, 0, 8);
+    let ReadU32::Value(n, c1) = rn else {
+        return refused(xdr::why_u32(rn));
+    };
+    let arrays = read_arrays(s, c1, n);
+    let end = arrays.end;
+    let ReadEnd::Value(c2) = end else {
+        return refused(why_end(end));
+    };
+    let rk = xdr::read_count(s, c2, 0, 0);
+    let ReadU32::Value(_, c3) = rk else {
+        return refused(xdr::why_u32(rk));
+    };
+    if c3.at != s.len() {
+        return refused(Refusal::BytesLeftOver);
+    }
+    let answer = ReportAnswer::Count(n);
+    let heads = arrays.heads;
+    let errors_at = arrays.errors_at;
+    ReportsRead {
+        answer: answer,
+        heads: heads,
+        errors_at: errors_at,
+    }
+}

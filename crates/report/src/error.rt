@@ -1,0 +1,96 @@
+// One error, and a run of errors.
+use crate::ErrorItem;
+use base::Refusal;
+use xdr::Cursor;
+use xdr::ReadPart;
+use xdr::ReadU32;
+ghost use mathlib.Core.Path.{_≡_};
+ghost use Rattle.report.specs.Reports.{errorFits, errorAt, errorsEnd};
+ghost use Rattle.report.specs.Answers.{resError, resEnd, whyEnd, whyError};
+
+pub enum ReadError {
+    Value(ErrorItem, Cursor),
+    Refused(Refusal),
+}
+
+// Where a run of items ends.
+pub enum ReadEnd {
+    Value(Cursor),
+    Refused(Refusal),
+}
+
+pub fn error_fits(status: u32, operation: u32) -> bool
+    ensures { λ r. ⌜ r ≡ errorFits status operation ⌝ }
+{
+    if status == 0 {
+        return false;
+    }
+    match operation {
+        5 => true,
+        25 => true,
+        38 => true,
+        _ => false,
+    }
+}
+
+pub fn read_error(s: &[u8], c: Cursor) -> ReadError
+    ensures { λ r. ⌜ resError r ≡ errorAt (now (s .entry)) (c .at) ⌝ }
+{
+    let rd = xdr::read_bytes(s, c, 16);
+    let ReadPart::Value(device, c1) = rd else {
+        return ReadError::Refused(xdr::why_part(rd));
+    };
+    let rs = xdr::read_u32(s, c1);
+    let ReadU32::Value(status, c2) = rs else {
+        return ReadError::Refused(xdr::why_u32(rs));
+    };
+    let ro = xdr::read_u32(s, c2);
+    let ReadU32::Value(operation, c3) = ro else {
+        return ReadError::Refused(xdr::why_u32(ro));
+    };
+    if !error_fits(status, operation) {
+        return ReadError::Refused(Refusal::ErrorInvalid);
+    }
+    let start = device.start;
+    let item = ErrorItem {
+        device: start,
+        status: status,
+        operation: operation,
+    };
+    ReadError::Value(item, c3)
+}
+
+pub fn why_error(r: ReadError) -> Refusal
+    ensures { λ e. ⌜ e ≡ whyError r ⌝ }
+{
+    match r {
+        ReadError::Refused(e) => e,
+        ReadError::Value(_, _) => Refusal::BytesRunOut,
+    }
+}
+
+// n errors, one after the other: where they end.
+pub fn read_errors(s: &[u8], c: Cursor, n: u32) -> ReadEnd
+    ensures { λ r. ⌜ resEnd r ≡ errorsEnd n (now (s .entry)) (c .at) ⌝ }
+{
+    let mut d = c;
+    let mut left = n;
+    while 0 < left {
+        let r = read_error(s, d);
+        let ReadError::Value(_, e) = r else {
+            return ReadEnd::Refused(why_error(r));
+        };
+        d = e;
+        left -= 1;
+    }
+    ReadEnd::Value(d)
+}
+
+pub fn why_end(r: ReadEnd) -> Refusal
+    ensures { λ e. ⌜ e ≡ whyEnd r ⌝ }
+{
+    match r {
+        ReadEnd::Refused(e) => e,
+        ReadEnd::Value(_) => Refusal::BytesRunOut,
+    }
+}

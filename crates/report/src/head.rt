@@ -1,0 +1,138 @@
+// One report: what stands before its errors, and the errors.
+use crate::ReportHead;
+use crate::error::ReadEnd;
+use crate::error::read_errors;
+use crate::error::why_end;
+use base::Last;
+use base::Refusal;
+use xdr::Cursor;
+use xdr::ReadPart;
+use xdr::ReadU32;
+use xdr::ReadU64;
+ghost use mathlib.Core.Path.{_≡_};
+ghost use Prim.Native.Nat.{_+_, _≤_};
+ghost use lib.ListN.{length};
+ghost use Rattle.base.specs.Ranges.{answerOfLast, rangeLast, whyLast};
+ghost use Rattle.numbers.specs.Numbers.{bytesFrom};
+ghost use Rattle.report.specs.Reports.{headAt, reportAt};
+ghost use Rattle.report.specs.Answers.{headFrom, resHead, resReport, whyHead, whyReport};
+
+// A `ReportHead` whose stateid is still in the bytes: `stateid` is its place.
+pub struct HeadItem {
+    pub offset: u64,
+    pub length: u64,
+    pub stateid: usize,
+    pub errors: u32,
+}
+
+pub enum ReadHead {
+    Value(HeadItem, Cursor),
+    Refused(Refusal),
+}
+
+// What stands before the errors, where the first error stands, and the place after the report.
+pub enum ReadReport {
+    Value(HeadItem, usize, Cursor),
+    Refused(Refusal),
+}
+
+fn stateid_at(s: &[u8], at: usize) -> [u8; 16]
+    requires { ⌜ at + 16 ≤ length (now s) ⌝ }
+    ensures { λ r. ⌜ r ≡ bytesFrom 16 (now (s .entry)) at ⌝ }
+{
+    let mut stateid = [0u8; 16];
+    let mut i: usize = 0;
+    while i < 16 {
+        stateid[i] = s[at + i];
+        i += 1;
+    }
+    stateid
+}
+
+pub(crate) fn head_of(s: &[u8], item: HeadItem) -> ReportHead
+    requires { ⌜ item .stateid + 16 ≤ length (now s) ⌝ }
+    ensures { λ r. ⌜ r ≡ headFrom (now (s .entry)) item ⌝ }
+{
+    let at = item.stateid;
+    let stateid = stateid_at(s, at);
+    ReportHead {
+        offset: item.offset,
+        length: item.length,
+        stateid: stateid,
+        errors: item.errors,
+    }
+}
+
+// The pair obeys the range rule, not the rule for I/O requests.
+fn pair_last(offset: u64, length: u64) -> Last
+    ensures { λ r. ⌜ answerOfLast r ≡ rangeLast offset length ⌝ }
+{
+    base::range_last(offset, length)
+}
+
+pub fn read_head(s: &[u8], c: Cursor) -> ReadHead
+    ensures { λ r. ⌜ resHead (now (s .entry)) r ≡ headAt (now (s .entry)) (c .at) ⌝ }
+{
+    let ro = xdr::read_u64(s, c);
+    let ReadU64::Value(offset, c1) = ro else {
+        return ReadHead::Refused(xdr::why_u64(ro));
+    };
+    let rl = xdr::read_u64(s, c1);
+    let ReadU64::Value(length, c2) = rl else {
+        return ReadHead::Refused(xdr::why_u64(rl));
+    };
+    let last = pair_last(offset, length);
+    let Last::At(_) = last else {
+        return ReadHead::Refused(base::why_last(last));
+    };
+    let rs = xdr::read_bytes(s, c2, 16);
+    let ReadPart::Value(part, c3) = rs else {
+        return ReadHead::Refused(xdr::why_part(rs));
+    };
+    let rn = xdr::read_count(s, c3, 1, 16);
+    let ReadU32::Value(errors, c4) = rn else {
+        return ReadHead::Refused(xdr::why_u32(rn));
+    };
+    let stateid = part.start;
+    let item = HeadItem {
+        offset: offset,
+        length: length,
+        stateid: stateid,
+        errors: errors,
+    };
+    ReadHead::Value(item, c4)
+}
+
+pub fn read_report(s: &[u8], c: Cursor) -> ReadReport
+    ensures { λ r. ⌜ resReport (now (s .entry)) r ≡ reportAt (now (s .entry)) (c .at) ⌝ }
+{
+    let rh = read_head(s, c);
+    let ReadHead::Value(item, d) = rh else {
+        return ReadReport::Refused(why_head(rh));
+    };
+    let errors = item.errors;
+    let first = d.at;
+    let re = read_errors(s, d, errors);
+    let ReadEnd::Value(e) = re else {
+        return ReadReport::Refused(why_end(re));
+    };
+    ReadReport::Value(item, first, e)
+}
+
+pub fn why_head(r: ReadHead) -> Refusal
+    ensures { λ e. ⌜ e ≡ whyHead r ⌝ }
+{
+    match r {
+        ReadHead::Refused(e) => e,
+        ReadHead::Value(_, _) => Refusal::BytesRunOut,
+    }
+}
+
+pub fn why_report(r: ReadReport) -> Refusal
+    ensures { λ e. ⌜ e ≡ whyReport r ⌝ }
+{
+    match r {
+        ReadReport::Refused(e) => e,
+        ReadReport::Value(_, _, _) => Refusal::BytesRunOut,
+    }
+}

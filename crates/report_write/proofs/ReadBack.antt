@@ -1,0 +1,258 @@
+-- Laws of what stands where something was read: an error, a run of errors, a head, a report, a run of reports.
+use Prim.Native.Nat.{ℕ, zero, suc, _+_, _*_, _≤_}
+use mathlib.Core.Path.{_≡_, refl, sym, ap, _∙_}
+use mathlib.Core.List.{List, [], _∷_, _++_, map}
+use mathlib.Core.Bool.{true}
+use native.Mathlib.Omega.{arith}
+use borrow.Author.Tests.{le-leb}
+use lib.ListN.{length, take, drop, length-append}
+use lib.Seq.{drop-at, take-at}
+use Rattle.base.specs.Answer.{Answer, accepted, refused, given, pick}
+use Rattle.base.specs.Ranges.{rangeLast}
+use Rattle.numbers.specs.Numbers.{beAt, beBytes, bytesFrom}
+use Rattle.numbers.proofs.NumberLaws.{AreBytes, length-be, length-bytes}
+use Rattle.xdr.specs.Items.{bytesAt, countAt, numAt}
+use Rattle.xdr.specs.Res.{ok, inside, manyAt}
+use Rattle.xdr.specs.declared.Part.{Part}
+use Rattle.xdr.proofs.ItemLaws.{num-there}
+use Rattle.xdr.proofs.Accepted.{ran, same-value, same-place}
+use Rattle.report.specs.Reports.{errorAt, errorFits, headAt, Report, reportAt}
+use Rattle.report.specs.declared.ErrorItem.{ErrorItem}
+use Rattle.report.specs.declared.ReportHead.{ReportHead}
+use Rattle.report.proofs.Runs.{bytes-ran, count-ran, many-none, num-ran, pick-ok}
+use Rattle.report_write.specs.Places.{recordsAt, recordsIn}
+use Rattle.report_write.specs.Writing.{allFit, counts, ErrorRecord, errorBytes, errorsBytes, headBytes, judged, judgedOne, recordHere, reportsBytes}
+use Rattle.report_write.proofs.Standing.{be-at-stands, be-stands, bytes-are, Stands, stands-join}
+use Rattle.report_write.proofs.StoringLaws.{length-error, length-head}
+
+-- ---- an error
+
+pub record ErrorBack (s : List ℕ) (at p : ℕ) : Type 0 where
+  pub stands : Stands (errorBytes (recordHere s at)) s at
+  pub size : length (errorBytes (recordHere s at)) ≡ 24
+  pub place : p ≡ at + 24
+  pub fits : errorFits (recordHere s at .status) (recordHere s at .operation) ≡ true
+
+record-back : (s : List ℕ) (at : ℕ) → AreBytes s → at + 24 ≤ length s → Stands (errorBytes (recordHere s at)) s at
+unfolding errorBytes recordHere
+record-back s at b r =
+    let d = bytesFrom 16 s at in
+    let st = beBytes 4 (beAt 4 s (at + 16)) in
+    let op = beBytes 4 (beAt 4 s (at + 20)) in
+    let d16 : length d ≡ 16 = length-bytes 16 s at (omega (arith, r)) in
+    let st4 = length-be 4 (beAt 4 s (at + 16)) in
+    stands-join d (st ++ op) s at (at + 16) (omega (arith, d16)) (bytes-are 16 s at (omega (arith, r)))
+    (stands-join st op s (at + 16) (at + 20) (omega (arith, st4)) (be-at-stands 4 s (at + 16) b (omega (arith, r))) (be-at-stands 4 s (at + 20) b (omega (arith, r))))
+
+num-at : (k : ℕ) (s : List ℕ) (at v p : ℕ) → numAt k s at ≡ ok v p → v ≡ beAt k s at
+num-at k s at v p h = let g = num-ran k s at v p h in same-value (sym h ∙ num-there k s at (g .0))
+
+error-parts : (s : List ℕ) (at : ℕ) (d : Part) (p1 st p2 op p3 : ℕ) → AreBytes s → bytesAt 16 s at ≡ ok d p1 → numAt 4 s p1 ≡ ok st p2
+    → numAt 4 s p2 ≡ ok op p3 → errorFits st op ≡ true → ErrorBack s at p3
+unfolding recordHere
+error-parts s at d p1 st p2 op p3 b x y z f =
+    let i = bytes-ran 16 s at d p1 x in
+    let j = num-ran 4 s p1 st p2 y in
+    let k = num-ran 4 s p2 op p3 z in
+    let e1 : p1 ≡ at + 16 = omega (arith, i .2) in
+    let e2 : p2 ≡ at + 20 = omega (arith, i .2, j .2) in
+    let e3 : p3 ≡ at + 24 = omega (arith, i .2, j .2, k .2) in
+    let r : at + 24 ≤ length s = omega (arith, e2, k .0) in
+    let u : st ≡ beAt 4 s (at + 16) = num-at 4 s p1 st p2 y ∙ ap (beAt 4 s) e1 in
+    let v : op ≡ beAt 4 s (at + 20) = num-at 4 s p2 op p3 z ∙ ap (beAt 4 s) e2 in
+    let n : length (bytesFrom 16 s at) ≡ 16 = length-bytes 16 s at (omega (arith, r)) in
+    record { stands = record-back s at b r; size = length-error (recordHere s at) ∙ omega (arith, n); place = e3; fits = rw (← u, ← v) f }
+
+pub error-back : (s : List ℕ) (at : ℕ) (e : ErrorItem) (p : ℕ) → AreBytes s → errorAt s at ≡ ok e p → ErrorBack s at p
+unfolding errorAt
+error-back s at e p b h =
+    let x = ran _ _ _ _ h in
+    let y = ran _ _ _ _ (x .rest) in
+    let z = ran _ _ _ _ (y .rest) in
+    let k = pick-ok (errorFits (y .item) (z .item)) _ 27 e p (z .rest) in
+    rw (← same-place (k .1)) (error-parts s at (x .item) (x .next) (y .item) (y .next) (z .item) (z .next) b (x .first) (y .first) (z .first) (k .0))
+
+-- ---- a run of errors
+
+pub record ErrorsBack (n : ℕ) (s : List ℕ) (at p : ℕ) : Type 0 where
+  pub stands : Stands (errorsBytes (recordsAt n s at)) s at
+  pub size : length (errorsBytes (recordsAt n s at)) ≡ 24 * n
+  pub place : p ≡ at + 24 * n
+  pub fits : allFit (recordsAt n s at) ≡ true
+
+errors-more : (n : ℕ) (s : List ℕ) (at p q : ℕ) → ErrorBack s at p → ErrorsBack n s p q → ErrorsBack (suc n) s at q
+unfolding errorsBytes recordsAt allFit
+errors-more n s at p q x y =
+    let e = recordHere s at in
+    let n24 = x .size in
+    let y' : ErrorsBack n s (at + 24) q = rw (x .place) at y in
+    record {
+      stands = stands-join (errorBytes e) (errorsBytes (recordsAt n s (at + 24))) s at (at + 24) (omega (arith, n24)) (x .stands) (y' .stands);
+      size = rw (length-append (errorBytes e) (errorsBytes (recordsAt n s (at + 24)))) (omega (arith, n24, y' .size));
+      place = omega (arith, y' .place);
+      fits = rw (x .fits) (y' .fits);
+    }
+
+no-errors : (s : List ℕ) (at p : ℕ) → at ≤ length s → p ≡ at → ErrorsBack zero s at p
+unfolding errorsBytes recordsAt allFit
+no-errors s at p r e = record { stands = record { room = omega (arith, r); same = refl }; size = refl; place = omega (arith, e); fits = refl }
+
+pub errors-back : (n : ℕ) (s : List ℕ) (at : ℕ) (xs : List ErrorItem) (p : ℕ) → AreBytes s → at ≤ length s → manyAt errorAt n s at ≡ ok xs p → ErrorsBack n s at p
+unfolding manyAt
+errors-back zero s at xs p b r h = none (same-place h) where
+  none : at ≡ p → ErrorsBack zero s at p
+  none e = no-errors s at p r (sym e)
+errors-back (suc n) s at xs p b r h =
+    let x = ran _ _ _ _ h in
+    let y = ran _ _ _ _ (x .rest) in
+    let f = error-back s at (x .item) (x .next) b (x .first) in
+    let m : x .next ≤ length s = omega (arith, f .stands .room, f .size, f .place) in
+    let g = errors-back n s (x .next) (y .item) (y .next) b m (y .first) in
+    rw (← same-place (y .rest)) (errors-more n s at (x .next) (y .next) f g)
+
+-- ---- a head
+
+pub record HeadBack (h : ReportHead) (s : List ℕ) (at p : ℕ) : Type 0 where
+  pub stands : Stands (headBytes h) s at
+  pub size : length (headBytes h) ≡ 36
+  pub place : p ≡ at + 36
+  pub last : ℕ
+  pub range : rangeLast (h .offset) (h .length) ≡ accepted last
+  pub some : 1 ≤ h .errors
+  pub few : h .errors ≤ 16
+
+inside-ok : {A : Type 0} (x : Answer A) (at : ℕ) (a : A) (p : ℕ) → inside x at ≡ ok a p → (x ≡ accepted a) × (at ≡ p)
+unfolding inside
+inside-ok (accepted b) at a p h = (ap accepted (same-value h), same-place h)
+inside-ok (refused n) at a p h = let z : _≡_ {A = ℕ} 0 1 = cc in absurd (omega arith)
+
+abbrev headWith : ℕ → ℕ → List ℕ → ℕ → ReportHead
+headWith offset len stateid errors = record { offset = offset; length = len; stateid = stateid; errors = errors }
+
+head-parts : (s : List ℕ) (at o p1 l p2 x p3 : ℕ) (st : Part) (p4 n p5 : ℕ) → AreBytes s → numAt 8 s at ≡ ok o p1 → numAt 8 s p1 ≡ ok l p2
+    → inside (rangeLast o l) p2 ≡ ok x p3 → bytesAt 16 s p3 ≡ ok st p4 → countAt 1 16 s p4 ≡ ok n p5
+    → HeadBack (headWith o l (bytesFrom 16 s (st .start)) n) s at p5
+unfolding headBytes
+head-parts s at o p1 l p2 x p3 st p4 n p5 b f g h i j =
+    let f' = num-ran 8 s at o p1 f in
+    let g' = num-ran 8 s p1 l p2 g in
+    let h' = inside-ok (rangeLast o l) p2 x p3 h in
+    let i' = bytes-ran 16 s p3 st p4 i in
+    let j' = count-ran 1 16 s p4 n p5 j in
+    let k = num-ran 4 s p4 n p5 (j' .0) in
+    let begin : st .start ≡ at + 16 = ap (λ (q : Part). q .start) (i' .1) ∙ omega (arith, f' .2, g' .2, h' .1) in
+    let e1 : p1 ≡ at + 8 = f' .2 in
+    let e4 : p4 ≡ at + 32 = omega (arith, f' .2, g' .2, h' .1, i' .2) in
+    let z = bytesFrom 16 s (st .start) in
+    let r : st .start + 16 ≤ length s = omega (arith, begin, e4, k .0) in
+    let z16 : length z ≡ 16 = length-bytes 16 s (st .start) r in
+    let zs : Stands z s (at + 16) = rw begin (bytes-are 16 s (at + 16) (omega (arith, r, begin))) in
+    let o8 = length-be 8 o in
+    let l8 = length-be 8 l in
+    let os = be-stands 8 s at o b (f' .0) (f' .1) in
+    let ls : Stands (beBytes 8 l) s (at + 8) = rw e1 at (be-stands 8 s p1 l b (g' .0) (g' .1)) in
+    let ns : Stands (beBytes 4 n) s (at + 32) = rw e4 at (be-stands 4 s p4 n b (k .0) (k .1)) in
+    record {
+      stands = stands-join (beBytes 8 o) (beBytes 8 l ++ (z ++ beBytes 4 n)) s at (at + 8) (omega (arith, o8)) os
+          (stands-join (beBytes 8 l) (z ++ beBytes 4 n) s (at + 8) (at + 16) (omega (arith, l8)) ls
+          (stands-join z (beBytes 4 n) s (at + 16) (at + 32) (omega (arith, z16)) zs ns));
+      size = length-head (headWith o l z n) z16;
+      place = omega (arith, e4, k .2);
+      last = x;
+      range = h' .0;
+      some = j' .1;
+      few = j' .2;
+    }
+
+moved : (s : List ℕ) (at : ℕ) (h h' : ReportHead) (p p' : ℕ) → ok h p ≡ ok h' p' → HeadBack h s at p → HeadBack h' s at p'
+moved s at h h' p p' e x = rw (← same-value e, ← same-place e) x
+
+pub head-back : (s : List ℕ) (at : ℕ) (h : ReportHead) (p : ℕ) → AreBytes s → headAt s at ≡ ok h p → HeadBack h s at p
+unfolding headAt
+head-back s at h p b e =
+    let o = ran _ _ _ _ e in
+    let l = ran _ _ _ _ (o .rest) in
+    let x = ran _ _ _ _ (l .rest) in
+    let t = ran _ _ _ _ (x .rest) in
+    let n = ran _ _ _ _ (t .rest) in
+    moved s at _ h _ p (n .rest)
+    (head-parts s at (o .item) (o .next) (l .item) (l .next) (x .item) (x .next) (t .item) (t .next) (n .item) (n .next) b (o .first) (l .first) (x .first) (t .first) (n .first))
+
+-- ---- reports
+
+abbrev heads : List Report → List ReportHead
+heads rs = map (λ (r : Report). r .head) rs
+
+pub record ReportsBack (rs : List Report) (s : List ℕ) (at p : ℕ) : Type 0 where
+  pub stands : Stands (reportsBytes (heads rs) (recordsIn s rs)) s at
+  pub place : p ≡ at + length (reportsBytes (heads rs) (recordsIn s rs))
+  pub allowed : judged (heads rs) (recordsIn s rs) ≡ accepted tt
+  pub sum : counts (heads rs) ≡ length (recordsIn s rs)
+
+length-records-at : (n : ℕ) (s : List ℕ) (at : ℕ) → length (recordsAt n s at) ≡ n
+unfolding recordsAt
+length-records-at zero s at = refl
+length-records-at (suc n) s at = ap suc (length-records-at n s (at + 24))
+
+judged-one : (h : ReportHead) (es : List ErrorRecord) (last : ℕ) → rangeLast (h .offset) (h .length) ≡ accepted last → 1 ≤ h .errors → h .errors ≤ 16
+    → allFit es ≡ true → judgedOne h es ≡ accepted tt
+unfolding judgedOne given pick
+judged-one h es last a b c d = rw (a, le-leb 1 (h .errors) b, le-leb (h .errors) 16 c, d)
+
+no-reports : (s : List ℕ) (at p : ℕ) → at ≤ length s → p ≡ at → ReportsBack [] s at p
+unfolding reportsBytes judged counts recordsIn
+no-reports s at p r e = record { stands = record { room = omega (arith, r); same = refl }; place = omega (arith, e); allowed = refl; sum = refl }
+
+-- one report before those behind it
+reports-more : (h : ReportHead) (rs : List Report) (s : List ℕ) (at p1 p2 p3 : ℕ) → HeadBack h s at p1 → ErrorsBack (h .errors) s p1 p2 → ReportsBack rs s p2 p3
+    → ReportsBack (record { head = h; errors-at = p1 } ∷ rs) s at p3
+unfolding reportsBytes judged counts recordsIn given
+reports-more h rs s at p1 p2 p3 x y z =
+    let xs = recordsAt (h .errors) s p1 in
+    let ys = recordsIn s rs in
+    let hs = heads rs in
+    let n : length xs ≡ h .errors = length-records-at (h .errors) s p1 in
+    let t : take (h .errors) (xs ++ ys) ≡ xs = take-at xs ys (h .errors) n in
+    let d : drop (h .errors) (xs ++ ys) ≡ ys = drop-at xs ys (h .errors) n in
+    let a = length-append (errorsBytes xs) (reportsBytes hs ys) in
+    let b = length-append (headBytes h) (errorsBytes xs ++ reportsBytes hs ys) in
+    record {
+      stands = rw (t, d)
+          (stands-join (headBytes h) (errorsBytes xs ++ reportsBytes hs ys) s at p1 (omega (arith, x .place, x .size)) (x .stands)
+          (stands-join (errorsBytes xs) (reportsBytes hs ys) s p1 p2 (omega (arith, y .place, y .size)) (y .stands) (z .stands)));
+      place = rw (t, d) (omega (arith, a, b, x .place, x .size, y .place, y .size, z .place));
+      allowed = rw (t, d, judged-one h xs (x .last) (x .range) (x .some) (x .few) (y .fits)) (z .allowed);
+      sum = rw (length-append xs ys) (omega (arith, n, z .sum));
+    }
+
+report-parts : (s : List ℕ) (at : ℕ) (r : Report) (p : ℕ) → reportAt s at ≡ ok r p
+    → (h : ReportHead) × (p1 : ℕ) × (xs : List ErrorItem) × (headAt s at ≡ ok h p1) × (manyAt errorAt (h .errors) s p1 ≡ ok xs p) × (r ≡ record { head = h; errors-at = p1 })
+unfolding reportAt
+report-parts s at r p e =
+    let a = ran _ _ _ _ e in
+    let b = ran _ _ _ _ (a .rest) in
+    (a .item, a .next, b .item, a .first, b .first ∙ ap (ok (b .item)) (same-place (b .rest)), sym (same-value (b .rest)))
+
+many-parts : (n : ℕ) (s : List ℕ) (at : ℕ) (rs : List Report) (p : ℕ) → manyAt reportAt (suc n) s at ≡ ok rs p
+    → (r : Report) × (q : ℕ) × (qs : List Report) × (reportAt s at ≡ ok r q) × (manyAt reportAt n s q ≡ ok qs p) × (rs ≡ r ∷ qs)
+unfolding manyAt
+many-parts n s at rs p e =
+    let a = ran _ _ _ _ e in
+    let b = ran _ _ _ _ (a .rest) in
+    (a .item, a .next, b .item, a .first, b .first ∙ ap (ok (b .item)) (same-place (b .rest)), sym (same-value (b .rest)))
+
+pub reports-back : (n : ℕ) (s : List ℕ) (at : ℕ) (rs : List Report) (p : ℕ) → AreBytes s → at ≤ length s → manyAt reportAt n s at ≡ ok rs p → ReportsBack rs s at p
+reports-back zero s at rs p b r h = go rs p (sym (many-none reportAt zero s at refl) ∙ h) where
+  go : (rs : List Report) (p : ℕ) → ok [] at ≡ ok rs p → ReportsBack rs s at p
+  go rs p e = rw (← same-value e, ← same-place e) (no-reports s at at r refl)
+reports-back (suc n) s at rs p b r h =
+    let a = many-parts n s at rs p h in
+    let c = report-parts s at (a .0) (a .1) (a .3) in
+    let x = head-back s at (c .0) (c .1) b (c .3) in
+    let m : c .1 ≤ length s = omega (arith, x .stands .room, x .size, x .place) in
+    let y = errors-back (c .0 .errors) s (c .1) (c .2) (a .1) b m (c .4) in
+    let k : a .1 ≤ length s = omega (arith, y .stands .room, y .size, y .place) in
+    let z = reports-back n s (a .1) (a .2) p b k (a .4) in
+    go rs (a .0) (a .2) (a .5) (c .5) (reports-more (c .0) (a .2) s at (c .1) (a .1) p x y z) where
+      go : (rs : List Report) (r : Report) (qs : List Report) {r' : Report} → rs ≡ r ∷ qs → r ≡ r' → ReportsBack (r' ∷ qs) s at p → ReportsBack rs s at p
+      go rs r qs e f w = rw (e, f) w

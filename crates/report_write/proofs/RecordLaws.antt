@@ -1,0 +1,137 @@
+-- Laws of heads and records taken one by one, and of the records that a list of heads uses.
+use Prim.Native.Nat.{ℕ, zero, suc, _+_, _-_, _*_, _≤_, _<_}
+use mathlib.Core.Path.{_≡_, refl, ap}
+use mathlib.Core.List.{List, [], _∷_, _++_}
+use mathlib.Core.Bool.{Bool, true, false, _&&_}
+use native.Mathlib.Omega.{arith}
+use native.Mathlib.Nat.{add-zero}
+use native.Mathlib.Numerals.{add-one}
+use borrow.Author.Tests.{leb-true}
+use lib.Dec.{leb}
+use lib.ListN.{length, take, drop, getD}
+use lib.Seq.{drop-cons}
+use Rattle.base.specs.Answer.{Answer, accepted, refused, given, pick}
+use Rattle.base.specs.Ranges.{rangeLast}
+use Rattle.numbers.specs.Numbers.{beAt}
+use Rattle.xdr.proofs.Accepted.{both}
+use Rattle.report.specs.Reports.{errorFits}
+use Rattle.report.specs.declared.ReportHead.{ReportHead}
+use Rattle.report_write.specs.Writing.{allFit, counts, ErrorRecord, errorsBytes, headBytes, judged, judgedOne, recordAt, recordHere, recordsFrom, reportsBytes}
+
+-- what stands in no place of an array
+abbrev pub noHead : ReportHead
+noHead = record { offset = 0; length = 0; stateid = []; errors = 0 }
+
+-- ---- one head after the other
+
+pub next-head : (hs : List ReportHead) (i m : ℕ) → i < length hs → 0 < m
+    → take m (drop i hs) ≡ getD hs i noHead ∷ take (m - 1) (drop (i + 1) hs)
+next-head hs i zero h k = absurd (omega arith)
+next-head hs i (suc m) h k =
+    let e : suc m - 1 ≡ m = omega arith in
+    rw (e, add-one i, drop-cons hs i noHead h)
+
+pub counts-next : (hs : List ReportHead) (i m : ℕ) → i < length hs → 0 < m
+    → counts (take m (drop i hs)) ≡ getD hs i noHead .errors + counts (take (m - 1) (drop (i + 1) hs))
+unfolding counts
+counts-next hs i m h k = rw (next-head hs i m h k)
+
+pub counts-none : (hs : List ReportHead) (i m : ℕ) → m ≡ 0 → counts (take m (drop i hs)) ≡ 0
+unfolding counts
+counts-none hs i m h = rw h
+
+-- ---- one record after the other
+
+pub records-next : (n i : ℕ) (errors : List ℕ) → 0 < n → recordsFrom n i errors ≡ recordAt errors i ∷ recordsFrom (n - 1) (i + 1) errors
+unfolding recordsFrom
+records-next zero i errors h = absurd (omega arith)
+records-next (suc n) i errors h = let e : suc n - 1 ≡ n = omega arith in rw e
+
+pub length-records : (n i : ℕ) (errors : List ℕ) → length (recordsFrom n i errors) ≡ n
+unfolding recordsFrom
+length-records zero i errors = refl
+length-records (suc n) i errors = ap suc (length-records n (i + 1) errors)
+
+-- the records of a report, and those behind them
+pub take-records : (m n i : ℕ) (errors : List ℕ) → take m (recordsFrom (m + n) i errors) ≡ recordsFrom m i errors
+unfolding recordsFrom
+take-records zero n i errors = refl
+take-records (suc m) n i errors =
+    let e : suc m + n ≡ suc (m + n) = omega arith in
+    rw e (ap {B = List ErrorRecord} (λ es. recordAt errors i ∷ es) (take-records m n (i + 1) errors))
+
+pub drop-records : (m n i : ℕ) (errors : List ℕ) → drop m (recordsFrom (m + n) i errors) ≡ recordsFrom n (i + m) errors
+unfolding recordsFrom
+drop-records zero n i errors = let e : 0 + n ≡ n = omega arith in rw (e, add-zero i)
+drop-records (suc m) n i errors =
+    let e : suc m + n ≡ suc (m + n) = omega arith in
+    let f : i + suc m ≡ i + 1 + m = omega arith in
+    rw (e, f) (drop-records m n (i + 1) errors)
+
+-- ---- what is judged, step by step
+
+pub fits-next : (n k : ℕ) (errors : List ℕ) (status operation : ℕ) (t : Bool) → 0 < n
+    → status ≡ beAt 4 errors (24 * k + 16) → operation ≡ beAt 4 errors (24 * k + 20) → t ≡ errorFits status operation
+    → allFit (recordsFrom n k errors) ≡ (t && allFit (recordsFrom (n - 1) (k + 1) errors))
+unfolding allFit recordAt recordHere
+fits-next n k errors status operation t h a b e = rw (records-next n k errors h, ← a, ← b, ← e)
+
+pub fits-none : (n k : ℕ) (errors : List ℕ) → n ≡ 0 → allFit (recordsFrom n k errors) ≡ true
+unfolding allFit recordsFrom
+fits-none n k errors h = rw h
+
+-- the heads left, and the records that they use
+pub judged-next : (hs : List ReportHead) (i m k : ℕ) (errors : List ℕ) → i < length hs → 0 < m
+    → judged (take m (drop i hs)) (recordsFrom (counts (take m (drop i hs))) k errors)
+    ≡ given (judgedOne (getD hs i noHead) (recordsFrom (getD hs i noHead .errors) k errors))
+    (λ u. judged (take (m - 1) (drop (i + 1) hs)) (recordsFrom (counts (take (m - 1) (drop (i + 1) hs))) (k + getD hs i noHead .errors) errors))
+unfolding judged counts
+judged-next hs i m k errors h n =
+    let c = counts (take (m - 1) (drop (i + 1) hs)) in
+    rw (next-head hs i m h n, take-records (getD hs i noHead .errors) c k errors, drop-records (getD hs i noHead .errors) c k errors)
+
+pub judged-none : (hs : List ReportHead) (i m : ℕ) (es : List ErrorRecord) → m ≡ 0 → judged (take m (drop i hs)) es ≡ accepted tt
+unfolding judged
+judged-none hs i m es h = rw h
+
+pub reports-next : (hs : List ReportHead) (i m k : ℕ) (errors : List ℕ) → i < length hs → 0 < m
+    → reportsBytes (take m (drop i hs)) (recordsFrom (counts (take m (drop i hs))) k errors)
+    ≡ headBytes (getD hs i noHead) ++ (errorsBytes (recordsFrom (getD hs i noHead .errors) k errors)
+    ++ reportsBytes (take (m - 1) (drop (i + 1) hs)) (recordsFrom (counts (take (m - 1) (drop (i + 1) hs))) (k + getD hs i noHead .errors) errors))
+unfolding reportsBytes counts
+reports-next hs i m k errors h n =
+    let c = counts (take (m - 1) (drop (i + 1) hs)) in
+    rw (next-head hs i m h n, take-records (getD hs i noHead .errors) c k errors, drop-records (getD hs i noHead .errors) c k errors)
+
+pub reports-none : (hs : List ReportHead) (i m : ℕ) (es : List ErrorRecord) → m ≡ 0 → reportsBytes (take m (drop i hs)) es ≡ []
+unfolding reportsBytes
+reports-none hs i m es h = rw h
+
+-- ---- what an allowed report says
+
+pub given-accepted : {A B : Type 0} (x : Answer A) (next : A → Answer B) (b : B) → given x next ≡ accepted b
+    → (a : A) × (x ≡ accepted a) × (next a ≡ accepted b)
+unfolding given
+given-accepted (accepted a) next b h = (a, refl, h)
+given-accepted (refused n) next b h = let z : _≡_ {A = ℕ} 0 1 = cc in absurd (omega arith)
+
+pub pick-accepted : {A : Type 0} (t : Bool) (x : Answer A) (n : ℕ) (a : A) → pick t x (refused n) ≡ accepted a → (t ≡ true) × (x ≡ accepted a)
+unfolding pick
+pick-accepted true x n a h = (refl, h)
+pick-accepted false x n a h = let z : _≡_ {A = ℕ} 0 1 = cc in absurd (omega arith)
+
+pub record Allowed (h : ReportHead) (es : List ErrorRecord) : Type 0 where
+  pub last : ℕ
+  pub range : rangeLast (h .offset) (h .length) ≡ accepted last
+  pub some : 1 ≤ h .errors
+  pub few : h .errors ≤ 16
+  pub fit : allFit es ≡ true
+
+pub allowed : (h : ReportHead) (es : List ErrorRecord) → judgedOne h es ≡ accepted tt → Allowed h es
+unfolding judgedOne
+allowed h es e =
+    let a = given-accepted _ _ _ e in
+    let b = pick-accepted _ _ 8 _ (a .2) in
+    let c = both (leb 1 (h .errors)) (leb (h .errors) 16) (b .0) in
+    let d = pick-accepted (allFit es) _ 27 _ (b .1) in
+    record { last = a .0; range = a .1; some = leb-true 1 (h .errors) (c .0); few = leb-true (h .errors) 16 (c .1); fit = d .0 }

@@ -1,0 +1,92 @@
+-- Laws of bytes that stand at a place of a list: parts and joins, and what is read there.
+use Prim.Native.Nat.{ℕ, _+_, _^_, _≤_, _<_}
+use mathlib.Core.Path.{_≡_, refl, sym, ap, _∙_}
+use mathlib.Core.List.{List, _++_}
+use native.Mathlib.Omega.{arith}
+use borrow.Author.Tests.{le-leb}
+use lib.ListN.{length, take, drop, length-append}
+use lib.Seq.{drop-at, take-at, take-length}
+use Rattle.base.specs.Answer.{pick}
+use Rattle.numbers.specs.Numbers.{beAt, beBytes, beValue, bytesFrom}
+use Rattle.numbers.proofs.NumberLaws.{AreBytes, be-back, be-round, dropped-bytes, length-be, length-bytes, taken-bytes, two-parts}
+use Rattle.xdr.specs.Res.{ok}
+use Rattle.xdr.specs.Items.{allZero, bytesAt, numAt, padding}
+
+-- the bytes bs stand in s from a place on
+pub record Stands (bs s : List ℕ) (at : ℕ) : Type 0 where
+  pub room : at + length bs ≤ length s
+  pub same : bytesFrom (length bs) s at ≡ bs
+
+pub stands-whole : (bs : List ℕ) → Stands bs bs 0
+stands-whole bs = record { room = omega arith; same = take-length bs }
+
+pub whole-stands : (bs s : List ℕ) → Stands bs s 0 → length bs ≡ length s → bs ≡ s
+whole-stands bs s h e = sym (h .same) ∙ ap (λ (n : ℕ). take n s) e ∙ take-length s
+
+pub stands-parts : (xs ys s : List ℕ) (at : ℕ) → Stands (xs ++ ys) s at → Stands xs s at × Stands ys s (at + length xs)
+stands-parts xs ys s at h =
+    let n : length (xs ++ ys) ≡ length xs + length ys = length-append xs ys in
+    let a : at + length xs ≤ length s = omega (arith, h .room) in
+    let b : at + length xs + length ys ≤ length s = omega (arith, h .room) in
+    let m : length (bytesFrom (length xs) s at) ≡ length xs = length-bytes (length xs) s at a in
+    let e : bytesFrom (length xs) s at ++ bytesFrom (length ys) s (at + length xs) ≡ xs ++ ys =
+    sym (two-parts (length xs) (length ys) s at) ∙ ap (λ (k : ℕ). bytesFrom k s at) (sym n) ∙ h .same in
+    let f : bytesFrom (length xs) s at ≡ xs =
+    sym (take-at _ (bytesFrom (length ys) s (at + length xs)) (length xs) m) ∙ ap (take (length xs)) e ∙ take-at xs ys (length xs) refl in
+    let g : bytesFrom (length ys) s (at + length xs) ≡ ys =
+    sym (drop-at (bytesFrom (length xs) s at) _ (length xs) m) ∙ ap (drop (length xs)) e ∙ drop-at xs ys (length xs) refl in
+    (record { room = a; same = f }, record { room = b; same = g })
+
+pub stands-join : (xs ys s : List ℕ) (at p : ℕ) → p ≡ at + length xs → Stands xs s at → Stands ys s p → Stands (xs ++ ys) s at
+stands-join xs ys s at p e a b =
+    let n : length (xs ++ ys) ≡ length xs + length ys = length-append xs ys in
+    record {
+      room = omega (arith, b .room);
+      same = ap (λ (k : ℕ). bytesFrom k s at) n ∙ two-parts (length xs) (length ys) s at
+          ∙ ap (λ (x : List ℕ). x ++ bytesFrom (length ys) s (at + length xs)) (a .same)
+          ∙ ap (λ (k : ℕ). xs ++ bytesFrom (length ys) s k) (sym e)
+          ∙ ap (λ (x : List ℕ). xs ++ x) (b .same);
+    }
+
+-- ---- what is read where bytes stand
+
+pub num-stands : (k v : ℕ) (s : List ℕ) (at : ℕ) → v < 256 ^ k → Stands (beBytes k v) s at → numAt k s at ≡ ok v (at + k)
+unfolding numAt pick
+num-stands k v s at h w =
+    let n = length-be k v in
+    let r : at + k ≤ length s = omega (arith, w .room) in
+    let e : bytesFrom k s at ≡ beBytes k v = ap (λ (m : ℕ). bytesFrom m s at) (sym n) ∙ w .same in
+    rw (le-leb (at + k) (length s) r, e, be-round k v h)
+
+pub be-stands-at : (k v : ℕ) (s : List ℕ) (at : ℕ) → v < 256 ^ k → Stands (beBytes k v) s at → beAt k s at ≡ v
+unfolding beAt pick
+be-stands-at k v s at h w =
+    let n = length-be k v in
+    let r : at + k ≤ length s = omega (arith, w .room) in
+    let e : bytesFrom k s at ≡ beBytes k v = ap (λ (m : ℕ). bytesFrom m s at) (sym n) ∙ w .same in
+    rw (le-leb (at + k) (length s) r, e, be-round k v h)
+
+pub bytes-stand : (bs s : List ℕ) (at : ℕ) → length bs ≡ 16 → Stands bs s at → bytesAt 16 s at ≡ ok (record { start = at; len = 16 }) (at + 16)
+unfolding bytesAt pick allZero
+bytes-stand bs s at h w =
+    let r : at + 16 + padding 16 ≤ length s = omega (arith, w .room) in
+    let e : at + 16 + padding 16 ≡ at + 16 = omega arith in
+    rw (le-leb (at + 16 + padding 16) (length s) r, e)
+
+-- ---- what stands where a number was read
+
+pub be-stands : (k : ℕ) (s : List ℕ) (at v : ℕ) → AreBytes s → at + k ≤ length s → v ≡ beValue (bytesFrom k s at) → Stands (beBytes k v) s at
+be-stands k s at v b r e =
+    let n = length-be k v in
+    let m : length (bytesFrom k s at) ≡ k = length-bytes k s at r in
+    let back : beBytes k v ≡ bytesFrom k s at = ap (beBytes k) e ∙ be-back k (bytesFrom k s at) m (taken-bytes k (drop at s) (dropped-bytes at s b)) in
+    record { room = omega (arith, n); same = ap (λ (m : ℕ). bytesFrom m s at) n ∙ sym back }
+
+pub bytes-are : (k : ℕ) (s : List ℕ) (at : ℕ) → at + k ≤ length s → Stands (bytesFrom k s at) s at
+bytes-are k s at r =
+    let m : length (bytesFrom k s at) ≡ k = length-bytes k s at r in
+    record { room = omega (arith, m); same = ap (λ (n : ℕ). bytesFrom n s at) m }
+
+pub be-at-stands : (k : ℕ) (s : List ℕ) (at : ℕ) → AreBytes s → at + k ≤ length s → Stands (beBytes k (beAt k s at)) s at
+unfolding beAt pick
+be-at-stands k s at b r = be-stands k s at (beAt k s at) b r (rw (le-leb (at + k) (length s) r))

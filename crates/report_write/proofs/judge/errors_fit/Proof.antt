@@ -1,0 +1,83 @@
+-- `report_write::judge::errors_fit` meets its contract. The loop's invariant: the records passed are allowed, so what is left decides. The measure
+-- is how many are left.
+use Prim.Native.Nat.{_+_}
+use Rattle.report_write.proofs.RecordLaws.{fits-next, fits-none}
+use Rattle.report_write.specs.Writing.{allFit, recordsFrom}
+use borrow.Author.Needs.{needs}
+use borrow.Author.Tests.{not-true, not-false}
+use denote.Ref.{now}
+use mathlib.Core.Path.{_≡_, refl}
+use native.Mathlib.Omega.{arith}
+use Rattle.report_write.proofs.judge.errors_fit.Statement.{statement}
+use Rattle.report_write.proofs.judge.errors_fit.Tie as tie
+
+abbrev Inv-loop : tie.InvT-loop
+Inv-loop errors first n k₀ left₀ k left = (k + left ≡ first + n) × (allFit (recordsFrom n first errors) ≡ allFit (recordsFrom left k errors))
+
+abbrev μ-loop : tie.MeasureT-loop
+μ-loop errors first n k₀ left₀ k left = left
+
+loop-holds : tie.Need-loop-holds Inv-loop μ-loop
+loop-holds c = (refl, refl)
+
+mul-at : tie.Need-mul-at Inv-loop μ-loop
+mul-at c = search needs
+
+add-be4 : tie.Need-add-be4 Inv-loop μ-loop
+add-be4 c = search needs
+
+be4-requires : tie.Need-be4-requires Inv-loop μ-loop
+be4-requires c κs = search needs
+
+add-be4-2 : tie.Need-add-be4-2 Inv-loop μ-loop
+add-be4-2 c = search needs
+
+be4-requires-2 : tie.Need-be4-requires-2 Inv-loop μ-loop
+be4-requires-2 c κs = search needs
+
+error-fits-requires : tie.Need-error-fits-requires Inv-loop μ-loop
+error-fits-requires c κs = search needs
+
+returns : tie.Need-returns Inv-loop μ-loop
+returns c =
+    let l = c .before .before .before .before .before .loop in
+    rw (l .inv .1, fits-next (l .left) (l .k) (now (c .before .before .before .before .before .before .before .args .errors)) _ _ _ (omega arith) (c .before .before .before .be4 .ensures) (c .before .before .be42 .ensures) (c .before .error-fits .ensures), not-true (c .before .error-fits .result) (c .if1 .taken))
+
+add-k : tie.Need-add-k Inv-loop μ-loop
+add-k c = search needs
+
+sub-left : tie.Need-sub-left Inv-loop μ-loop
+sub-left c = search needs
+
+loop-less : tie.Need-loop-less Inv-loop μ-loop
+loop-less c = search needs
+
+loop-again : tie.Need-loop-again Inv-loop μ-loop
+loop-again c =
+    let l = c .before .before .before .before .before .loop in
+    (omega arith, rw (l .inv .1, fits-next (l .left) (l .k) (now (c .before .before .before .before .before .before .before .args .errors)) _ _ _ (omega arith) (c .before .before .before .be4 .ensures) (c .before .before .be42 .ensures) (c .before .error-fits .ensures), not-false (c .before .error-fits .result) (c .if1 .left)))
+
+returns-2 : tie.Need-returns-2 Inv-loop μ-loop
+returns-2 c =
+    let l = c .before .loop in
+    rw (l .inv .1, fits-none (l .left) (l .k) (now (c .before .before .before .args .errors)) (omega arith))
+
+pub errors-fit-spec : {M : Type 1} → statement M
+errors-fit-spec =
+    tie.close
+    (tie.spec
+    Inv-loop
+    μ-loop
+    loop-holds
+    mul-at
+    add-be4
+    be4-requires
+    add-be4-2
+    be4-requires-2
+    error-fits-requires
+    returns
+    add-k
+    sub-left
+    loop-less
+    loop-again
+    returns-2)

@@ -1,0 +1,64 @@
+-- `report_write::judge::judge_one` meets its contract: the range, the error count, the errors.
+use Rattle.base.specs.Answer.{refused, given, pick}
+use Rattle.base.specs.Ranges.{answerOfLast, whyLast}
+use Rattle.report_write.specs.Writing.{judgedOne}
+use Rattle.xdr.proofs.Steps.{came, handed}
+use borrow.Author.Needs.{needs}
+use borrow.Author.Tests.{le-leb, lt-leb, not-true, not-false}
+use mathlib.Core.Path.{refl, sym, _∙_}
+use Rattle.report_write.proofs.judge.judge_one.Statement.{statement}
+use Rattle.report_write.proofs.judge.judge_one.Tie as tie
+
+range-last-requires : tie.Need-range-last-requires
+range-last-requires c κs = search needs
+
+enum-told : tie.Need-enum-told
+enum-told c = search needs
+
+enum-told-2 : tie.Need-enum-told-2
+enum-told-2 c = search needs
+
+why-last-requires : tie.Need-why-last-requires
+why-last-requires c κs = search needs
+
+returns : tie.Need-returns
+unfolding judgedOne given
+returns c = rw (handed answerOfLast whyLast refused (c .before .before .before .range-last .ensures) (c .before .enum-told2 .given .1) (c .why-last .ensures) refl)
+
+returns-2 : tie.Need-returns-2
+unfolding judgedOne given pick
+returns-2 c = rw (came answerOfLast (c .before .before .before .before .range-last .ensures) (c .before .before .enum-told .given .1), lt-leb _ _ (c .if1 .taken))
+
+returns-3 : tie.Need-returns-3
+unfolding judgedOne given pick
+returns-3 c = rw (came answerOfLast (c .before .before .before .before .before .before .range-last .ensures) (c .before .before .before .before .enum-told .given .1), le-leb _ _ (c .before .before .if1 .left), lt-leb _ _ (c .if2 .taken))
+
+cast-n : tie.Need-cast-n
+cast-n c = search needs
+
+errors-fit-requires : tie.Need-errors-fit-requires
+errors-fit-requires c κs = search needs
+
+returns-4 : tie.Need-returns-4
+unfolding judgedOne given pick
+returns-4 c = rw (came answerOfLast (c .before .before .before .before .before .before .before .before .before .range-last .ensures) (c .before .before .before .before .before .before .before .enum-told .given .1), le-leb _ _ (c .before .before .before .before .before .if1 .left), le-leb _ _ (c .before .before .before .if2 .left), sym (c .before .errors-fit .ensures) ∙ not-true _ (c .if3 .taken))
+
+returns-5 : tie.Need-returns-5
+unfolding judgedOne given pick
+returns-5 c = rw (came answerOfLast (c .before .before .before .before .before .before .before .before .before .range-last .ensures) (c .before .before .before .before .before .before .before .enum-told .given .1), le-leb _ _ (c .before .before .before .before .before .if1 .left), le-leb _ _ (c .before .before .before .if2 .left), sym (c .before .errors-fit .ensures) ∙ not-false _ (c .if3 .left))
+
+pub judge-one-spec : {M : Type 1} → statement M
+judge-one-spec =
+    tie.close
+    (tie.spec
+    range-last-requires
+    enum-told
+    enum-told-2
+    why-last-requires
+    returns
+    returns-2
+    returns-3
+    cast-n
+    errors-fit-requires
+    returns-4
+    returns-5)

@@ -1,0 +1,29 @@
+-- What the answers say.
+use Prim.Native.Nat.{ℕ}
+use mathlib.Core.List.{List}
+use lib.ListN.{length}
+use Rattle.base.specs.Answer.{Answer, accepted, refused, given}
+use Rattle.base.specs.Refusals.{numberOf}
+use Rattle.base.specs.declared.refusal.Refusal.{Refusal}
+use Rattle.base.specs.declared.refusal.Refusal.the-variants.{BytesRunOut}
+use Rattle.report_write.specs.declared.body.Written.{Written}
+use Rattle.report_write.specs.declared.body.Written.the-variants as written
+use Rattle.report_write.specs.declared.judge.Judged.{Judged}
+use Rattle.report_write.specs.declared.judge.Judged.the-variants as judged
+
+abbrev pub answerWritten : Written → Answer ℕ
+answerWritten (written.Length n) = accepted n
+answerWritten (written.Refused e) = refused (numberOf e)
+
+-- the length of what is written
+unfoldable pub lengthOf : Answer (List ℕ) → Answer ℕ
+lengthOf a = given a λ bs. accepted (length bs)
+
+abbrev pub answerJudged : Judged → Answer (Unit {0})
+answerJudged judged.Allowed = accepted tt
+answerJudged (judged.Refused e) = refused (numberOf e)
+
+-- The refusal in an answer; of an answer without one, the first of the refusals.
+abbrev pub whyJudged : Judged → Refusal
+whyJudged judged.Allowed = BytesRunOut
+whyJudged (judged.Refused e) = e

@@ -1,0 +1,35 @@
+-- Reports and errors by their places in a body; what the two round trips speak of.
+use Prim.Native.Nat.{ℕ, zero, suc, _+_, _*_, _^_, _<_}
+use mathlib.Core.Path.{_≡_}
+use mathlib.Core.List.{List, [], _∷_, _++_}
+use lib.ListN.{length}
+use Rattle.report.specs.Reports.{Report}
+use Rattle.report.specs.declared.ReportHead.{ReportHead}
+use Rattle.report_write.specs.Writing.{ErrorRecord, recordHere}
+
+-- reports that are written from a place on: 36 bytes, then the errors of 24 bytes each
+unfoldable pub placed : List ReportHead → ℕ → List Report
+placed [] at = []
+placed (h ∷ hs) at = record { head = h; errors-at = at + 36 } ∷ placed hs (at + 36 + 24 * h .errors)
+
+-- the n records from a place on
+unfoldable pub recordsAt : ℕ → List ℕ → ℕ → List ErrorRecord
+recordsAt zero s at = []
+recordsAt (suc n) s at = recordHere s at ∷ recordsAt n s (at + 24)
+
+-- the records of the reports' errors, in order
+unfoldable pub recordsIn : List ℕ → List Report → List ErrorRecord
+recordsIn s [] = []
+recordsIn s (r ∷ rs) = recordsAt (r .head .errors) s (r .errors-at) ++ recordsIn s rs
+
+-- ---- values as wide as their fields
+
+abbrev pub HeadFits : ReportHead → Type 0
+HeadFits h = (h .offset < 256 ^ 8) × (h .length < 256 ^ 8) × (length (h .stateid) ≡ 16)
+
+abbrev pub RecordFits : ErrorRecord → Type 0
+RecordFits e = (length (e .device) ≡ 16) × (e .status < 256 ^ 4) × (e .operation < 256 ^ 4)
+
+abbrev pub Each : {A : Type 0} → (A → Type 0) → List A → Type 0
+Each P [] = Unit {0}
+Each P (x ∷ xs) = P x × Each P xs

@@ -1,0 +1,49 @@
+// The whole body, written.
+use crate::judge::Judged;
+use crate::judge::judge;
+use crate::judge::total;
+use crate::judge::why_judged;
+use crate::put::put_reports;
+use base::Refusal;
+use report::ReportHead;
+ghost use mathlib.Core.Path.{_≡_};
+ghost use lib.ListN.{length};
+ghost use Rattle.report_write.specs.Writing.{after, recordsFrom, reportsWritten};
+ghost use Rattle.report_write.specs.Answers.{answerWritten, lengthOf};
+
+pub enum Written {
+    Length(usize),
+    Refused(Refusal),
+}
+
+// `errors` holds the error list as wire records of 24 bytes; `list_length` is how long the list is.
+pub fn write_reports(
+    count: u32,
+    heads: [ReportHead; 8],
+    list_length: usize,
+    errors: &[u8],
+    out: &mut [u8],
+) -> Written
+    ensures { λ r. ⌜ (answerWritten r ≡ lengthOf (reportsWritten count heads (recordsFrom «list_length» 0 (now (errors .entry))) (length (now (out .entry)))))
+        × (now (out .exit) ≡ after (now (out .entry)) (reportsWritten count heads (recordsFrom «list_length» 0 (now (errors .entry))) (length (now (out .entry))))) ⌝ }
+{
+    if 8 < count {
+        return Written::Refused(Refusal::OutsideLimit);
+    }
+    let n = count as usize;
+    if total(heads, n) != list_length as u64 {
+        return Written::Refused(Refusal::OutsideLimit);
+    }
+    let j = judge(heads, n, errors);
+    let Judged::Allowed = j else {
+        return Written::Refused(why_judged(j));
+    };
+    let size = 8 + 36 * n + 24 * list_length;
+    if out.len() < size {
+        return Written::Refused(Refusal::OutputTooShort);
+    }
+    numbers::put_be4(out, 0, count);
+    put_reports(out, heads, n, errors);
+    numbers::put_be4(out, size - 4, 0);
+    Written::Length(size)
+}

@@ -1,0 +1,78 @@
+// Error records and reports stored into a buffer.
+use report::ReportHead;
+ghost use mathlib.Core.Path.{_≡_};
+ghost use Prim.Native.Nat.{_+_, _*_, _≤_};
+ghost use lib.ListN.{length, take};
+ghost use lib.Seq.{sets};
+ghost use Rattle.numbers.specs.Numbers.{stored};
+ghost use Rattle.report_write.specs.Writing.{counts, errorBytes, errorsBytes, headBytes, recordsFrom, reportsBytes};
+
+// One wire record. Where it does not fit, the buffer stays as it was.
+pub fn put_error(buf: &mut [u8], at: usize, device: &[u8], status: u32, operation: u32)
+    ensures { λ r. ⌜ now (buf .exit) ≡ stored (now (buf .entry)) at (errorBytes (record { device = now (device .entry); status = status; operation = operation })) ⌝ }
+{
+    let n = device.len();
+    if buf.len() < at {
+        return;
+    }
+    let room = buf.len() - at;
+    if room < n {
+        return;
+    }
+    if room - n < 8 {
+        return;
+    }
+    numbers::put_bytes(buf, at, device);
+    numbers::put_be4(buf, at + n, status);
+    numbers::put_be4(buf, at + n + 4, operation);
+}
+
+// The n records from the first on.
+fn put_errors(out: &mut [u8], at: usize, errors: &[u8], first: usize, n: usize)
+    requires { ⌜ (at + 24 * n ≤ length (now out)) × (24 * (first + n) ≤ length (now errors)) ⌝ }
+    ensures { λ r. ⌜ now (out .exit) ≡ sets (now (out .entry)) at (errorsBytes (recordsFrom n first (now (errors .entry)))) ⌝ }
+{
+    let mut p = at;
+    let mut k = first;
+    let mut left = n;
+    while 0 < left {
+        let from = 24 * k;
+        let to = from + 16;
+        let status = numbers::be4(errors, to);
+        let operation = numbers::be4(errors, from + 20);
+        put_error(out, p, &errors[from..to], status, operation);
+        p += 24;
+        k += 1;
+        left -= 1;
+    }
+}
+
+fn put_head(out: &mut [u8], at: usize, head: ReportHead)
+    requires { ⌜ at + 36 ≤ length (now out) ⌝ }
+    ensures { λ r. ⌜ (now (out .exit) ≡ sets (now (out .entry)) at (headBytes head)) × (length (head .stateid) ≡ 16) ⌝ }
+{
+    let stateid = head.stateid;
+    numbers::put_be8(out, at, head.offset);
+    numbers::put_be8(out, at + 8, head.length);
+    numbers::put_bytes(out, at + 16, &stateid);
+    numbers::put_be4(out, at + 32, head.errors);
+}
+
+// The reports in order, from place 4 on.
+pub(crate) fn put_reports(out: &mut [u8], heads: [ReportHead; 8], count: usize, errors: &[u8])
+    requires { ⌜ (count ≤ 8) × (4 + 36 * count + 24 * counts (take count heads) ≤ length (now out)) × (24 * counts (take count heads) ≤ length (now errors)) ⌝ }
+    ensures { λ r. ⌜ now (out .exit) ≡ sets (now (out .entry)) 4 (reportsBytes (take count heads) (recordsFrom (counts (take count heads)) 0 (now (errors .entry)))) ⌝ }
+{
+    let mut p: usize = 4;
+    let mut k: usize = 0;
+    let mut i: usize = 0;
+    while i < count {
+        let head = heads[i];
+        let n = head.errors as usize;
+        put_head(out, p, head);
+        put_errors(out, p + 36, errors, k, n);
+        p += 36 + 24 * n;
+        k += n;
+        i += 1;
+    }
+}
