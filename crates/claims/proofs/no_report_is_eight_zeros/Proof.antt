@@ -1,0 +1,10 @@
+-- `claims::no_report_is_eight_zeros` is two laws of `report_write`.
+use Rattle.report_write.proofs.RoundTrip.{nothing-read, nothing-written}
+use Rattle.claims.proofs.no_report_is_eight_zeros.Statement.{statement}
+use Rattle.claims.proofs.no_report_is_eight_zeros.Tie as tie
+
+returns : tie.Need-returns
+returns c = (nothing-written, nothing-read)
+
+pub no-report-is-eight-zeros-spec : {M : Type 1} → statement M
+no-report-is-eight-zeros-spec = tie.close (tie.spec returns)

@@ -1,0 +1,10 @@
+-- `claims::reports_read_are_written` is a law of `report_write`.
+use Rattle.report_write.proofs.RoundTrip.{writing-what-was-read}
+use Rattle.claims.proofs.reports_read_are_written.Statement.{statement}
+use Rattle.claims.proofs.reports_read_are_written.Tie as tie
+
+returns : tie.Need-returns
+returns c = writing-what-was-read
+
+pub reports-read-are-written-spec : {M : Type 1} → statement M
+reports-read-are-written-spec = tie.close (tie.spec returns)

@@ -1,0 +1,57 @@
+// The theorems that the documents cite, each as the `ensures` of an empty function, so that it stands before a reader's eyes and the gate fails if
+// it goes. A statement needs only the definitions that it names.
+ghost use Prim.Native.Nat.{ℕ, _+_, _*_, _^_, _<_, _≤_};
+ghost use mathlib.Core.Path.{_≡_};
+ghost use mathlib.Core.Logic.{_⊎_};
+ghost use mathlib.Core.List.{List, []};
+ghost use lib.ListN.{getD, length, replicate, take};
+ghost use Rattle.base.specs.Answer.{accepted};
+ghost use Rattle.numbers.specs.Numbers.{beBytes, beValue, bytesFrom};
+ghost use Rattle.layout.specs.Layouts.{Layout, layoutBody};
+ghost use Rattle.report.specs.Reports.{Report, reportBody};
+ghost use Rattle.report.specs.Answers.{headsOf};
+ghost use Rattle.report.specs.declared.ReportHead.{ReportHead};
+ghost use Rattle.report_write.specs.Places.{Each, HeadFits, RecordFits, placed, recordsIn};
+ghost use Rattle.report_write.specs.Writing.{ErrorRecord, reportsWritten};
+ghost use Rattle.claims.specs.Statements.{AllBytes, ServerStands};
+
+// A number that was written in k bytes is read back, for every width k.
+pub fn numbers_written_are_read()
+    ensures { λ r. ⌜ ((k v : ℕ) → v < 256 ^ k → beValue (beBytes k v) ≡ v) ⌝ }
+{}
+
+// Bytes that were read as a number are written back, for every width k.
+pub fn numbers_read_are_written()
+    ensures { λ r. ⌜ ((k : ℕ) (bs : List ℕ) → length bs ≡ k → AllBytes bs → beBytes k (beValue bs) ≡ bs) ⌝ }
+{}
+
+// At the start of mirror m and stripe k stands that data server: its device id, efficiency, stateid and filehandle count.
+pub fn starts_are_servers()
+    ensures { λ r. ⌜ ((s : List ℕ) (l : Layout) → layoutBody s ≡ accepted l
+        → (m k : ℕ) → m < l .summary .mirrors → k < l .summary .servers → ServerStands s (getD (l .starts) (m * 16 + k) 0)) ⌝ }
+{}
+
+// Places of no data server hold 0.
+pub fn other_starts_are_zero()
+    ensures { λ r. ⌜ ((s : List ℕ) (l : Layout) → layoutBody s ≡ accepted l
+        → (m k : ℕ) → k < 16 → (l .summary .mirrors ≤ m) ⊎ (l .summary .servers ≤ k) → getD (l .starts) (m * 16 + k) 0 ≡ 0) ⌝ }
+{}
+
+// Reading what was written gives the same reports, and at their places the same errors.
+pub fn reports_written_are_read()
+    ensures { λ r. ⌜ ((count : ℕ) (heads : List ReportHead) (errors : List ErrorRecord) (room : ℕ) (bs : List ℕ)
+        → Each HeadFits (take count heads) → Each RecordFits errors → reportsWritten count heads errors room ≡ accepted bs
+        → (reportBody bs ≡ accepted (placed (take count heads) 4)) × (recordsIn bs (placed (take count heads) 4) ≡ errors)) ⌝ }
+{}
+
+// Writing what was read gives the same bytes.
+pub fn reports_read_are_written()
+    ensures { λ r. ⌜ ((bs : List ℕ) (reports : List Report) (room : ℕ) → AllBytes bs → length bs ≤ room → reportBody bs ≡ accepted reports
+        → reportsWritten (length reports) (headsOf reports) (recordsIn bs reports) room ≡ accepted bs) ⌝ }
+{}
+
+// A report body with nothing in it: eight zero bytes.
+pub fn no_report_is_eight_zeros()
+    ensures { λ r. ⌜ ((heads : List ReportHead) (room : ℕ) → 8 ≤ room → reportsWritten 0 heads [] room ≡ accepted (replicate 8 0))
+        × (reportBody (replicate 8 0) ≡ accepted []) ⌝ }
+{}
