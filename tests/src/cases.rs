@@ -105,7 +105,7 @@ fn parse_case(kind: u16, payload: &[u8]) -> Option<Case<'_>> {
     }
 }
 
-/// "mirror (LE4), stripe (LE4), spoken versions (LE4), device id (16), layout
+/// "mirror (LE4), stripe (LE4), supported versions (LE4), device id (16), layout
 /// length (LE4), layout body, device body"
 fn parse_bind(payload: &[u8]) -> Option<BindRequest<'_>> {
     let mut fields = Fields { rest: payload };

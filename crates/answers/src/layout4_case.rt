@@ -2,18 +2,8 @@
 use crate::layout_case::put_summary;
 use crate::line::put_field;
 use crate::line::put_refusal;
-use base::Iomode;
 use layout4::Layout4;
 use layout4::Layout4Answer;
-
-// The wire number.
-fn iomode_number(m: Iomode) -> u64 {
-    match m {
-        Iomode::Read => 1,
-        Iomode::ReadWrite => 2,
-        Iomode::Any => 3,
-    }
-}
 
 // What stands before the body.
 fn put_frame(line: &mut [u8], l: Layout4) -> usize {
@@ -21,7 +11,7 @@ fn put_frame(line: &mut [u8], l: Layout4) -> usize {
     let body = l.body;
     let a = put_field(line, 0, b"layout4 offset=", l.offset);
     let b = put_field(line, a, b" length=", l.length);
-    let c = put_field(line, b, b" iomode=", iomode_number(iomode));
+    let c = put_field(line, b, b" iomode=", base::iomode_number(iomode) as u64);
     put_field(line, c, b" body=", body.len as u64)
 }
 

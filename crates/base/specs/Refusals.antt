@@ -44,7 +44,7 @@ numberOf RangeInvalid = 5
 numberOf PaddingNotZero = 6
 -- a boolean is neither 0 nor 1
 numberOf BooleanInvalid = 7
--- a count or length is outside its limit
+-- a count or length is outside its limit, a binding's set of versions is above 15, or an error list's length is not the counts' sum
 numberOf OutsideLimit = 8
 -- a later mirror's server count differs from the first's
 numberOf ServerCountDiffers = 9

@@ -1,7 +1,7 @@
 // Iomodes by their wire numbers.
 use crate::refusal::Refusal;
 ghost use mathlib.Core.Path.{_≡_};
-ghost use Rattle.base.specs.Iomodes.{answerOfIomode, grantIomodeOf, iomodeOf, whyIomode};
+ghost use Rattle.base.specs.Iomodes.{answerOfIomode, grantIomodeOf, iomodeOf, numberOfIomode, whyIomode};
 
 pub enum Iomode {
     Read,
@@ -42,5 +42,15 @@ pub fn why_iomode(r: ReadIomode) -> Refusal
     match r {
         ReadIomode::Refused(e) => e,
         ReadIomode::Value(_) => Refusal::IomodeNotAllowed,
+    }
+}
+
+pub fn iomode_number(m: Iomode) -> u32
+    ensures { λ r. ⌜ r ≡ numberOfIomode m ⌝ }
+{
+    match m {
+        Iomode::Read => 1,
+        Iomode::ReadWrite => 2,
+        Iomode::Any => 3,
     }
 }

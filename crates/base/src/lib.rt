@@ -6,6 +6,7 @@ mod refusal;
 pub use iomode::Iomode;
 pub use iomode::ReadIomode;
 pub use iomode::grant_iomode;
+pub use iomode::iomode_number;
 pub use iomode::iomode_of;
 pub use iomode::why_iomode;
 pub use range::Last;

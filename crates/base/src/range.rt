@@ -15,7 +15,7 @@ const LAST_BYTE: u64 = 18446744073709551615;
 // What offset and length may come to together.
 const LARGEST_SUM: u64 = 18446744073709551615;
 
-// The length that means "to the end of the file".
+// The length that means "through the last byte".
 const TO_THE_END: u64 = 18446744073709551615;
 
 pub fn range_last(offset: u64, length: u64) -> Last

@@ -1,1 +1,2 @@
 pub mod BindingLaws
+pub mod RefusalLaws

@@ -3,11 +3,14 @@
 ghost use Prim.Native.Nat.{ℕ, _+_, _*_, _^_, _<_, _≤_};
 ghost use mathlib.Core.Path.{_≡_};
 ghost use mathlib.Core.Logic.{_⊎_};
-ghost use mathlib.Core.List.{List, []};
+ghost use mathlib.Core.List.{List, [], map};
 ghost use lib.ListN.{getD, length, replicate, take};
-ghost use Rattle.base.specs.Answer.{accepted};
-ghost use Rattle.numbers.specs.Numbers.{beBytes, beValue, bytesFrom};
-ghost use Rattle.layout.specs.Layouts.{Layout, layoutBody};
+ghost use Rattle.base.specs.Answer.{accepted, refused};
+ghost use Rattle.numbers.specs.Numbers.{beBytes, beValue};
+ghost use Rattle.server.specs.declared.item.Server.{Server};
+ghost use Rattle.layout.specs.Layouts.{Layout, layoutBody, startsOf};
+ghost use Rattle.device.specs.Bodies.{deviceBody};
+ghost use Rattle.binding.specs.Bindings.{boundTo};
 ghost use Rattle.report.specs.Reports.{Report, reportBody};
 ghost use Rattle.report.specs.Answers.{headsOf};
 ghost use Rattle.report.specs.declared.ReportHead.{ReportHead};
@@ -25,7 +28,13 @@ pub fn numbers_read_are_written()
     ensures { λ r. ⌜ ((k : ℕ) (bs : List ℕ) → length bs ≡ k → AllBytes bs → beBytes k (beValue bs) ≡ bs) ⌝ }
 {}
 
-// At the start of mirror m and stripe k stands that data server: its device id, efficiency, stateid and filehandle count.
+// The start of mirror m's server k is at the index m * 16 + k.
+pub fn starts_are_by_mirror_and_stripe()
+    ensures { λ r. ⌜ ((mirrors : List (List Server)) → ((m : ℕ) → length (getD mirrors m []) ≤ 16)
+        → (m k : ℕ) → k < 16 → getD (startsOf mirrors) (m * 16 + k) 0 ≡ getD (map (λ v. v .device) (getD mirrors m [])) k 0) ⌝ }
+{}
+
+// At each used start of an accepted body stands a data server: its device id, efficiency, stateid and filehandle count.
 pub fn starts_are_servers()
     ensures { λ r. ⌜ ((s : List ℕ) (l : Layout) → layoutBody s ≡ accepted l
         → (m k : ℕ) → m < l .summary .mirrors → k < l .summary .servers → ServerStands s (getD (l .starts) (m * 16 + k) 0)) ⌝ }
@@ -35,6 +44,14 @@ pub fn starts_are_servers()
 pub fn other_starts_are_zero()
     ensures { λ r. ⌜ ((s : List ℕ) (l : Layout) → layoutBody s ≡ accepted l
         → (m k : ℕ) → k < 16 → (l .summary .mirrors ≤ m) ⊎ (l .summary .servers ≤ k) → getD (l .starts) (m * 16 + k) 0 ≡ 0) ⌝ }
+{}
+
+// A binding refuses with the number of the layout body, of the device body, or with 16, 8, 13, 14 or 15: what it reads again is there.
+pub fn bindings_refuse_as_listed()
+    ensures { λ r. ⌜ ((layout : List ℕ) (mirror stripe : ℕ) (device id : List ℕ) (supported n : ℕ)
+        → boundTo layout mirror stripe device id supported ≡ refused n
+        → (layoutBody layout ≡ refused n) ⊎ ((deviceBody device ≡ refused n)
+        ⊎ ((n ≡ 16) ⊎ ((n ≡ 8) ⊎ ((n ≡ 13) ⊎ ((n ≡ 14) ⊎ (n ≡ 15))))))) ⌝ }
 {}
 
 // Reading what was written gives the same reports, and at their places the same errors.

@@ -102,13 +102,6 @@ whole-read s (ok b at) a h = go (eqb at (length s)) refl h where
   go false e k = not-accepted 2 a k
 whole-read s (no n) a h = not-accepted n a h
 
-pub body-within : (s : List ℕ) (d : Device) → deviceBody s ≡ accepted d → length s ≤ 2048
-unfolding deviceBody pick
-body-within s d h = go (leb (length s) 2048) refl h where
-  go : (t : Bool) → leb (length s) 2048 ≡ t → pick t (whole s (deviceAt s 0)) (refused 8) ≡ accepted d → length s ≤ 2048
-  go true e k = leb-true _ _ e
-  go false e k = not-accepted 8 d k
-
 pub body-read : (s : List ℕ) (d : Device) → deviceBody s ≡ accepted d → deviceAt s 0 ≡ ok d (length s)
 unfolding deviceBody pick
 body-read s d h = go (leb (length s) 2048) h where

@@ -1,4 +1,4 @@
--- What holds of an accepted body: its limits, and what stands at a start: the data server of that mirror and stripe. Other places are 0.
+-- What holds of an accepted body: its limits, which place of the table has which start, and that a data server stands there. Other places are 0.
 use Prim.Native.Nat.{ℕ, zero, suc, _+_, _-_, _*_, _≤_, _<_}
 use mathlib.Core.Path.{_≡_, refl, sym, ap, _∙_}
 use mathlib.Core.Logic.{_⊎_, ⊎-elim}
@@ -104,27 +104,38 @@ zeros-behind [] (suc r) (suc i) = zeros-behind [] r i
 zeros-behind (x ∷ l) r zero = refl
 zeros-behind (x ∷ l) r (suc i) = zeros-behind l r i
 
-row-length : (n : ℕ) (m : List Server) → length m ≡ n → n ≤ 16 → length (padded 16 0 (map (λ v. v .device) m)) ≡ 16
+row-length : (m : List Server) → length m ≤ 16 → length (padded 16 0 (map (λ v. v .device) m)) ≡ 16
 unfolding padded
-row-length n m e h =
-    let k : length (map (λ v. v .device) m) ≤ 16 = omega (arith, length-map m (λ (v : Server). v .device), e) in
+row-length m h =
+    let k : length (map (λ v. v .device) m) ≤ 16 = omega (arith, length-map m (λ (v : Server). v .device)) in
     simp (length-append, length-replicate) (omega arith)
 
-rows-at : (n : ℕ) (ms : List (List Server)) → n ≤ 16 → EachHas n ms → (m k : ℕ) → k < 16
+rows-at : (ms : List (List Server)) → ((j : ℕ) → length (getD ms j []) ≤ 16) → (m k : ℕ) → k < 16
     → getD (rows ms) (m * 16 + k) 0 ≡ getD (map (λ v. v .device) (getD ms m [])) k 0
 unfolding rows padded
-rows-at n [] h each m k small = refl
-rows-at n (row ∷ ms) h each zero k small =
+rows-at [] few m k small = refl
+rows-at (row ∷ ms) few zero k small =
     let e : 0 * 16 + k ≡ k = omega arith in
-    let lr : k < length (padded 16 0 (map (λ v. v .device) row)) = omega (arith, row-length n row (each .0) h) in
+    let lr : k < length (padded 16 0 (map (λ v. v .device) row)) = omega (arith, row-length row (few 0)) in
     rw (e, List·getD-append (padded 16 0 (map (λ v. v .device) row)) (rows ms) 0 k lr) (padded-at (map (λ v. v .device) row) k)
   where
     padded-at : (l : List ℕ) (i : ℕ) → getD (padded 16 0 l) i 0 ≡ getD l i 0
     padded-at l i = zeros-behind l (16 - length l) i
-rows-at n (row ∷ ms) h each (suc m) k small =
+rows-at (row ∷ ms) few (suc m) k small =
     let first = padded 16 0 (map (λ v. v .device) row) in
-    let e : suc m * 16 + k ≡ length first + (m * 16 + k) = omega (arith, row-length n row (each .0) h) in
-    rw (e, getD-append-add first (rows ms) (m * 16 + k) 0) (rows-at n ms h (each .1) m k small)
+    let e : suc m * 16 + k ≡ length first + (m * 16 + k) = omega (arith, row-length row (few 0)) in
+    rw (e, getD-append-add first (rows ms) (m * 16 + k) 0) (rows-at ms (λ j. few (suc j)) m k small)
+
+-- mirror times 16 plus stripe is the place of a server's start
+pub starts-at : (ms : List (List Server)) → ((j : ℕ) → length (getD ms j []) ≤ 16) → (m k : ℕ) → k < 16
+    → getD (startsOf ms) (m * 16 + k) 0 ≡ getD (map (λ v. v .device) (getD ms m [])) k 0
+unfolding startsOf padded
+starts-at ms few m k small = zeros-behind (rows ms) (128 - length (rows ms)) (m * 16 + k) ∙ rows-at ms few m k small
+
+row-has : (n : ℕ) (ms : List (List Server)) → EachHas n ms → (m : ℕ) → length (getD ms m []) ≤ n
+row-has n [] each m = omega arith
+row-has n (row ∷ ms) each zero = omega (arith, each .0)
+row-has n (row ∷ ms) each (suc m) = row-has n ms (each .1) m
 
 -- ---- the data server at a start
 
@@ -201,14 +212,12 @@ all-stand mirrors servers s at ms p e (suc m) k h small =
 -- the place of mirror m and stripe k in the table
 place-of : (s : List ℕ) (l : Layout) (h : layoutBody s ≡ accepted l) (m k : ℕ) → k < 16
     → getD (l .starts) (m * 16 + k) 0 ≡ getD (starts (getD (accepted-parts s l h .mirrors) m [])) k 0
-unfolding startsOf padded
 place-of s l h m k small =
     let p = accepted-parts s l h in
     let f = front-read s 0 (p .front) (p .p1) (p .front-read) in
     let r = mirrors-have (p .front .mirrors) (p .front .servers) s (p .p1) (p .mirrors) (p .p2) (f .mirrors-some) (p .mirrors-read) in
     ap (λ (x : Layout). getD (x .starts) (m * 16 + k) 0) (sym (p .whole))
-    ∙ zeros-behind (rows (p .mirrors)) (128 - length (rows (p .mirrors))) (m * 16 + k)
-    ∙ rows-at (p .front .servers) (p .mirrors) (f .servers-few) (r .each) m k small
+    ∙ starts-at (p .mirrors) (λ j. let few = row-has (p .front .servers) (p .mirrors) (r .each) j in omega (arith, few, f .servers-few)) m k small
 
 -- at each used start stands a data server: its device id there, efficiency 16 bytes on, stateid 20, filehandle count 36 (`server-read`)
 pub start-stands : (s : List ℕ) (l : Layout) → layoutBody s ≡ accepted l
@@ -223,11 +232,6 @@ start-stands s l h m k hm hk =
     moved (sym g) i
 
 -- ---- unused places
-
-row-has : (n : ℕ) (ms : List (List Server)) → EachHas n ms → (m : ℕ) → length (getD ms m []) ≤ n
-row-has n [] each m = omega arith
-row-has n (row ∷ ms) each zero = omega (arith, each .0)
-row-has n (row ∷ ms) each (suc m) = row-has n ms (each .1) m
 
 -- a place beyond the mirrors, or beyond a mirror's servers, holds 0
 pub start-unused : (s : List ℕ) (l : Layout) → layoutBody s ≡ accepted l

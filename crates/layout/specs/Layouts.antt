@@ -37,7 +37,7 @@ mirrorsAt mirrors servers s at =
     then (manyAt (mirrorAt servers) (mirrors - 1) s p1) λ others p2.
     ok (first ∷ others) p2
 
--- "Flags are bits 1, 2, 4, 8; any other bit is refused": a number above 15 has another bit
+-- "Flags are bits 1 .., 2 .., 4 .., 8 ..; any other bit is refused": a number above 15 has another bit
 unfoldable pub tailAt : List ℕ → ℕ → Res Tail
 tailAt s at =
     then (numAt 4 s at) λ flags p1.

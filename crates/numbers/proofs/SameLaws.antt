@@ -11,11 +11,6 @@ use lib.ListN.{length, drop, getD}
 use lib.Seq.{drop-cons, drop-length}
 use Rattle.numbers.specs.Numbers.{sameBytes}
 
-pub same-refl : (xs : List ℕ) → sameBytes xs xs ≡ true
-unfolding sameBytes
-same-refl [] = refl
-same-refl (x ∷ xs) = rw (eq-eqb x x refl) (same-refl xs)
-
 pub same-true : (xs ys : List ℕ) → sameBytes xs ys ≡ true → xs ≡ ys
 unfolding sameBytes
 same-true [] [] h = refl

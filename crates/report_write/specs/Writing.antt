@@ -29,12 +29,14 @@ unfoldable pub recordsFrom : ℕ → ℕ → List ℕ → List ErrorRecord
 recordsFrom zero i errors = []
 recordsFrom (suc n) i errors = recordAt errors i ∷ recordsFrom n (i + 1) errors
 
--- ---- what is judged
+-- ---- what an array of heads has by its type
 
 -- each stateid has 16 bytes
 unfoldable pub stateidsWhole : List ReportHead → Bool
 stateidsWhole [] = true
 stateidsWhole (h ∷ hs) = eqb (length (h .stateid)) 16 && stateidsWhole hs
+
+-- ---- what is judged
 
 -- "the counts together must be the list's length"
 unfoldable pub counts : List ReportHead → ℕ

@@ -7,7 +7,7 @@ ghost use lib.Seq.{sets};
 ghost use Rattle.numbers.specs.Numbers.{stored};
 ghost use Rattle.report_write.specs.Writing.{counts, errorBytes, errorsBytes, headBytes, recordsFrom, reportsBytes};
 
-// One wire record. Where it does not fit, the buffer stays as it was.
+// One wire record: the device id, which has 16 bytes where it is one, then status and operation. Where it does not fit, the buffer stays as it was.
 pub fn put_error(buf: &mut [u8], at: usize, device: &[u8], status: u32, operation: u32)
     ensures { λ r. ⌜ now (buf .exit) ≡ stored (now (buf .entry)) at (errorBytes (record { device = now (device .entry); status = status; operation = operation })) ⌝ }
 {
