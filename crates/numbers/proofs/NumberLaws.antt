@@ -10,7 +10,7 @@ use borrow.Author.Tests.{le-leb, lt-leb}
 use lib.ListN.{length, take, drop, getD, length-append, length-take, length-drop}
 use lib.Seq.{drop-cons, take-add, take-all, take-suc, drop-drop, getD-drop}
 use Rattle.base.specs.Answer.{pick}
-use Rattle.numbers.specs.Numbers.{bytesFrom, beFrom, beValue, beBytes, leValue, beAt, leAt}
+use Rattle.numbers.specs.Numbers.{AllBytes, bytesFrom, beFrom, beValue, beBytes, leValue, leBytes, beAt, leAt}
 
 -- ---- bytes of a list
 
@@ -36,6 +36,13 @@ four-bytes s at h =
     let h3 : at + 3 < length s = omega arith in
     let e : suc at ≡ at + 1 = omega arith in
     rw (first-byte 3 s at h0, e, next-byte 1 2 s at h1, next-byte 2 1 s at h2, next-byte 3 0 s at h3)
+
+pub two-bytes : (s : List ℕ) (at : ℕ) → at + 2 ≤ length s → bytesFrom 2 s at ≡ getD s at 0 ∷ getD s (at + 1) 0 ∷ []
+two-bytes s at h =
+    let h0 : at < length s = omega arith in
+    let h1 : at + 1 < length s = omega arith in
+    let e : suc at ≡ at + 1 = omega arith in
+    rw (first-byte 1 s at h0, e, next-byte 1 0 s at h1)
 
 -- ---- a number in two parts
 
@@ -90,17 +97,26 @@ be-round (suc k) v h =
     let q : v / 256 < 256 ^ k = div-lt-iff-lt-mul {k = 256} (omega arith) .1 (omega (arith, pow-suc 256 k)) in
     rw (be-snoc (beBytes k (v / 256)) (v % 256), be-round k (v / 256) q) (div-add-mod' v 256)
 
--- each element is a byte
-abbrev pub AreBytes : List ℕ → Type 0
-AreBytes bs = (i : ℕ) → getD bs i 0 < 256
+pub length-le : (k v : ℕ) → length (leBytes k v) ≡ k
+unfolding leBytes
+length-le zero v = refl
+length-le (suc k) v = ap suc (length-le k (v / 256))
 
-pub taken-bytes : (k : ℕ) (bs : List ℕ) → AreBytes bs → AreBytes (take k bs)
+pub le-round : (k v : ℕ) → v < 256 ^ k → leValue (leBytes k v) ≡ v
+unfolding leBytes leValue
+le-round zero v h = omega arith
+le-round (suc k) v h =
+    let q : v / 256 < 256 ^ k = div-lt-iff-lt-mul {k = 256} (omega arith) .1 (omega (arith, pow-suc 256 k)) in
+    rw (le-round k (v / 256) q) (div-add-mod' v 256)
+
+-- each element is a byte
+pub taken-bytes : (k : ℕ) (bs : List ℕ) → AllBytes bs → AllBytes (take k bs)
 taken-bytes zero bs h i = omega arith
 taken-bytes (suc k) [] h i = omega arith
 taken-bytes (suc k) (b ∷ bs) h zero = h 0
 taken-bytes (suc k) (b ∷ bs) h (suc i) = taken-bytes k bs (λ j. h (suc j)) i
 
-pub dropped-bytes : (k : ℕ) (bs : List ℕ) → AreBytes bs → AreBytes (drop k bs)
+pub dropped-bytes : (k : ℕ) (bs : List ℕ) → AllBytes bs → AllBytes (drop k bs)
 dropped-bytes k bs h i = rw getD-drop (h (k + i))
 
 -- the last byte apart
@@ -110,7 +126,7 @@ last-byte k bs h =
     let m : length bs ≤ suc k = omega arith in
     sym (take-all (suc k) bs m) ∙ take-suc bs k 0 n
 
-pub be-back : (k : ℕ) (bs : List ℕ) → length bs ≡ k → AreBytes bs → beBytes k (beValue bs) ≡ bs
+pub be-back : (k : ℕ) (bs : List ℕ) → length bs ≡ k → AllBytes bs → beBytes k (beValue bs) ≡ bs
 unfolding beBytes
 be-back zero [] h b = refl
 be-back zero (x ∷ bs) h b = absurd (omega (arith, h))

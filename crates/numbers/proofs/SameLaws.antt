@@ -1,6 +1,6 @@
 -- Laws of equal runs of bytes: the test says that two lists are equal, and goes by lengths, then byte by byte.
 use Prim.Native.Nat.{ℕ, suc, _<_}
-use mathlib.Core.Path.{_≡_, refl, ap, _∙_}
+use mathlib.Core.Path.{_≡_, refl, sym, ap, _∙_}
 use mathlib.Core.Bool.{Bool, true, false, _&&_, false≢true}
 use mathlib.Core.List.{List, [], _∷_}
 use native.Mathlib.Numerals.{add-one}
@@ -31,3 +31,18 @@ pub same-step : (xs ys : List ℕ) (i : ℕ) → i < length xs → i < length ys
     → sameBytes (drop i xs) (drop i ys) ≡ (eqb (getD xs i 0) (getD ys i 0) && sameBytes (drop (suc i) xs) (drop (suc i) ys))
 unfolding sameBytes
 same-step xs ys i h k = rw (drop-cons xs i 0 h, drop-cons ys i 0 k)
+
+pub same-refl : (b : List ℕ) → sameBytes b b ≡ true
+unfolding sameBytes
+same-refl [] = refl
+same-refl (x ∷ b) = rw (eq-eqb x x refl) (same-refl b)
+
+pub same-not : (b c : List ℕ) → sameBytes b c ≡ false → b ≡ c → ⊥
+same-not b c e p = false≢true (sym e ∙ (ap (λ (x : List ℕ). sameBytes b x) (sym p) ∙ same-refl b))
+
+pub same-other : (b c : List ℕ) → (b ≡ c → ⊥) → sameBytes b c ≡ false
+same-other b c n = go (sameBytes b c) refl
+  where
+    go : (t : Bool) → sameBytes b c ≡ t → sameBytes b c ≡ false
+    go true e = absurd (n (same-true b c e))
+    go false e = e

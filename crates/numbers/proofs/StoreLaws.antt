@@ -1,4 +1,4 @@
--- Laws of bytes stored into a buffer: runs of stores join, and a number is stored from its last byte to its first.
+-- Laws of bytes stored into a buffer: runs of stores join, and a number is stored from its last byte to its first, or the other way round.
 use Prim.Native.Nat.{ℕ, zero, suc, _+_, _-_, _/_, _%_, _≤_, _<_}
 use mathlib.Core.Path.{_≡_, refl, sym, ap, _∙_}
 use mathlib.Core.Bool.{Bool, true, false}
@@ -10,7 +10,7 @@ use lib.Dec.{leb}
 use lib.ListN.{length, take, drop, getD, set, length-append, length-take}
 use lib.Seq.{sets, length-sets, set-comm, take-suc}
 use Rattle.base.specs.Answer.{pick}
-use Rattle.numbers.specs.Numbers.{beBytes, stored}
+use Rattle.numbers.specs.Numbers.{beBytes, leBytes, stored}
 use Rattle.numbers.proofs.NumberLaws.{length-be}
 
 -- a run of stores in two parts
@@ -39,6 +39,15 @@ last-byte-first l at (suc k) v h =
     ∙ ap (λ (m : ℕ). set (sets l at bs) (at + m) (v % 256)) (length-be k (v / 256))
     ∙ sym (sets-set l at bs (at + k) (v % 256) n))
 
+-- a little-endian number's next byte
+pub low-byte-first : (l : List ℕ) (at k i v : ℕ) → i < k
+    → sets l (at + i) (leBytes (k - i) v) ≡ sets (set l (at + i) (v % 256)) (at + (i + 1)) (leBytes (k - (i + 1)) (v / 256))
+unfolding leBytes
+low-byte-first l at k i v h =
+    let e : k - i ≡ suc (k - (i + 1)) = omega arith in
+    let f : at + (i + 1) ≡ suc (at + i) = omega arith in
+    rw (e, f)
+
 -- one more byte of a run
 pub next-stored : (l : List ℕ) (at : ℕ) (bs : List ℕ) (i : ℕ) → i < length bs
     → sets l at (take (suc i) bs) ≡ set (sets l at (take i bs)) (at + i) (getD bs i 0)
@@ -62,3 +71,12 @@ length-stored l at bs = go (leb (at + length bs) (length l)) where
   go : (t : Bool) → length (pick t (sets l at bs) l) ≡ length l
   go true = length-sets l at bs
   go false = refl
+
+-- bytes stored right behind others are stored with them
+pub stored-then : (l : List ℕ) (at p : ℕ) (xs ys : List ℕ) → p ≡ at + length xs → p + length ys ≤ length l
+    → stored (stored l at xs) p ys ≡ stored l at (xs ++ ys)
+stored-then l at p xs ys e h =
+    let a : at + length xs ≤ length l = omega arith in
+    let b : p + length ys ≤ length (stored l at xs) = rw (length-stored l at xs) h in
+    let c : at + length (xs ++ ys) ≤ length l = simp length-append (omega arith) in
+    rw (fits-stored (stored l at xs) p ys b, fits-stored l at xs a, fits-stored l at (xs ++ ys) c, e) (sym (sets-append l at xs ys))

@@ -1,11 +1,15 @@
 -- Numbers as bytes, for every width, in both byte orders; runs of bytes compared, and stored into a buffer.
-use Prim.Native.Nat.{ℕ, zero, suc, _+_, _*_, _/_, _%_}
+use Prim.Native.Nat.{ℕ, zero, suc, _+_, _*_, _/_, _%_, _<_}
 use mathlib.Core.List.{List, [], _∷_, _++_}
-use lib.ListN.{length, take, drop}
+use lib.ListN.{length, take, drop, getD}
 use lib.Seq.{sets}
 use mathlib.Core.Bool.{Bool, true, false, _&&_}
 use lib.Dec.{leb, eqb}
 use Rattle.base.specs.Answer.{pick}
+
+-- each element is a byte
+abbrev pub AllBytes : List ℕ → Type 0
+AllBytes bs = (i : ℕ) → getD bs i 0 < 256
 
 -- the k bytes from a place
 abbrev pub bytesFrom : ℕ → List ℕ → ℕ → List ℕ
@@ -29,6 +33,11 @@ beBytes (suc k) v = beBytes k (v / 256) ++ (v % 256 ∷ [])
 unfoldable pub leValue : List ℕ → ℕ
 leValue [] = 0
 leValue (b ∷ bs) = leValue bs * 256 + b
+
+-- the k bytes of v, the lowest first
+unfoldable pub leBytes : ℕ → ℕ → List ℕ
+leBytes zero v = []
+leBytes (suc k) v = v % 256 ∷ leBytes k (v / 256)
 
 -- the numbers of the k bytes at a place; 0 where the bytes run out
 unfoldable pub beAt : ℕ → List ℕ → ℕ → ℕ

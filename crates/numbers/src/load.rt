@@ -1,4 +1,4 @@
-// Numbers of 4 and 8 bytes at a place of a slice, in both byte orders; 0 where the bytes run out.
+// Numbers of 2, 4 and 8 bytes at a place of a slice; 0 where the bytes run out.
 ghost use mathlib.Core.Path.{_≡_};
 ghost use Prim.Native.Nat.{_<_};
 ghost use Rattle.numbers.specs.Numbers.{beAt, leAt};
@@ -38,6 +38,20 @@ pub fn be8(s: &[u8], at: usize) -> u64
     let high = be4(s, at) as u64;
     let low = be4(s, at + 4) as u64;
     high * 4294967296 + low
+}
+
+pub fn le2(s: &[u8], at: usize) -> u32
+    ensures { λ r. ⌜ r ≡ leAt 2 (now (s .entry)) at ⌝ }
+{
+    if s.len() < at {
+        return 0;
+    }
+    if s.len() - at < 2 {
+        return 0;
+    }
+    let a = wide(s[at]);
+    let b = wide(s[at + 1]);
+    b * 256 + a
 }
 
 pub fn le4(s: &[u8], at: usize) -> u32

@@ -9,8 +9,8 @@ use lib.ListN.{length, take, drop, length-append}
 use lib.Seq.{drop-at, take-at}
 use Rattle.base.specs.Answer.{Answer, accepted, refused, given, pick}
 use Rattle.base.specs.Ranges.{rangeLast}
-use Rattle.numbers.specs.Numbers.{beAt, beBytes, bytesFrom}
-use Rattle.numbers.proofs.NumberLaws.{AreBytes, length-be, length-bytes}
+use Rattle.numbers.specs.Numbers.{AllBytes, beAt, beBytes, bytesFrom}
+use Rattle.numbers.proofs.NumberLaws.{length-be, length-bytes}
 use Rattle.xdr.specs.Items.{bytesAt, countAt, numAt}
 use Rattle.xdr.specs.Res.{ok, inside, manyAt}
 use Rattle.xdr.specs.declared.Part.{Part}
@@ -33,7 +33,7 @@ pub record ErrorBack (s : List ℕ) (at p : ℕ) : Type 0 where
   pub place : p ≡ at + 24
   pub fits : errorFits (recordHere s at .status) (recordHere s at .operation) ≡ true
 
-record-back : (s : List ℕ) (at : ℕ) → AreBytes s → at + 24 ≤ length s → Stands (errorBytes (recordHere s at)) s at
+record-back : (s : List ℕ) (at : ℕ) → AllBytes s → at + 24 ≤ length s → Stands (errorBytes (recordHere s at)) s at
 unfolding errorBytes recordHere
 record-back s at b r =
     let d = bytesFrom 16 s at in
@@ -47,7 +47,7 @@ record-back s at b r =
 num-at : (k : ℕ) (s : List ℕ) (at v p : ℕ) → numAt k s at ≡ ok v p → v ≡ beAt k s at
 num-at k s at v p h = let g = num-ran k s at v p h in same-value (sym h ∙ num-there k s at (g .0))
 
-error-parts : (s : List ℕ) (at : ℕ) (d : Part) (p1 st p2 op p3 : ℕ) → AreBytes s → bytesAt 16 s at ≡ ok d p1 → numAt 4 s p1 ≡ ok st p2
+error-parts : (s : List ℕ) (at : ℕ) (d : Part) (p1 st p2 op p3 : ℕ) → AllBytes s → bytesAt 16 s at ≡ ok d p1 → numAt 4 s p1 ≡ ok st p2
     → numAt 4 s p2 ≡ ok op p3 → errorFits st op ≡ true → ErrorBack s at p3
 unfolding recordHere
 error-parts s at d p1 st p2 op p3 b x y z f =
@@ -63,7 +63,7 @@ error-parts s at d p1 st p2 op p3 b x y z f =
     let n : length (bytesFrom 16 s at) ≡ 16 = length-bytes 16 s at (omega (arith, r)) in
     record { stands = record-back s at b r; size = length-error (recordHere s at) ∙ omega (arith, n); place = e3; fits = rw (← u, ← v) f }
 
-pub error-back : (s : List ℕ) (at : ℕ) (e : ErrorItem) (p : ℕ) → AreBytes s → errorAt s at ≡ ok e p → ErrorBack s at p
+pub error-back : (s : List ℕ) (at : ℕ) (e : ErrorItem) (p : ℕ) → AllBytes s → errorAt s at ≡ ok e p → ErrorBack s at p
 unfolding errorAt
 error-back s at e p b h =
     let x = ran _ _ _ _ h in
@@ -97,7 +97,7 @@ no-errors : (s : List ℕ) (at p : ℕ) → at ≤ length s → p ≡ at → Err
 unfolding errorsBytes recordsAt allFit
 no-errors s at p r e = record { stands = record { room = omega (arith, r); same = refl }; size = refl; place = omega (arith, e); fits = refl }
 
-pub errors-back : (n : ℕ) (s : List ℕ) (at : ℕ) (xs : List ErrorItem) (p : ℕ) → AreBytes s → at ≤ length s → manyAt errorAt n s at ≡ ok xs p → ErrorsBack n s at p
+pub errors-back : (n : ℕ) (s : List ℕ) (at : ℕ) (xs : List ErrorItem) (p : ℕ) → AllBytes s → at ≤ length s → manyAt errorAt n s at ≡ ok xs p → ErrorsBack n s at p
 unfolding manyAt
 errors-back zero s at xs p b r h = none (same-place h) where
   none : at ≡ p → ErrorsBack zero s at p
@@ -129,7 +129,7 @@ inside-ok (refused n) at a p h = let z : _≡_ {A = ℕ} 0 1 = cc in absurd (ome
 abbrev headWith : ℕ → ℕ → List ℕ → ℕ → ReportHead
 headWith offset len stateid errors = record { offset = offset; length = len; stateid = stateid; errors = errors }
 
-head-parts : (s : List ℕ) (at o p1 l p2 x p3 : ℕ) (st : Part) (p4 n p5 : ℕ) → AreBytes s → numAt 8 s at ≡ ok o p1 → numAt 8 s p1 ≡ ok l p2
+head-parts : (s : List ℕ) (at o p1 l p2 x p3 : ℕ) (st : Part) (p4 n p5 : ℕ) → AllBytes s → numAt 8 s at ≡ ok o p1 → numAt 8 s p1 ≡ ok l p2
     → inside (rangeLast o l) p2 ≡ ok x p3 → bytesAt 16 s p3 ≡ ok st p4 → countAt 1 16 s p4 ≡ ok n p5
     → HeadBack (headWith o l (bytesFrom 16 s (st .start)) n) s at p5
 unfolding headBytes
@@ -167,7 +167,7 @@ head-parts s at o p1 l p2 x p3 st p4 n p5 b f g h i j =
 moved : (s : List ℕ) (at : ℕ) (h h' : ReportHead) (p p' : ℕ) → ok h p ≡ ok h' p' → HeadBack h s at p → HeadBack h' s at p'
 moved s at h h' p p' e x = rw (← same-value e, ← same-place e) x
 
-pub head-back : (s : List ℕ) (at : ℕ) (h : ReportHead) (p : ℕ) → AreBytes s → headAt s at ≡ ok h p → HeadBack h s at p
+pub head-back : (s : List ℕ) (at : ℕ) (h : ReportHead) (p : ℕ) → AllBytes s → headAt s at ≡ ok h p → HeadBack h s at p
 unfolding headAt
 head-back s at h p b e =
     let o = ran _ _ _ _ e in
@@ -241,7 +241,7 @@ many-parts n s at rs p e =
     let b = ran _ _ _ _ (a .rest) in
     (a .item, a .next, b .item, a .first, b .first ∙ ap (ok (b .item)) (same-place (b .rest)), sym (same-value (b .rest)))
 
-pub reports-back : (n : ℕ) (s : List ℕ) (at : ℕ) (rs : List Report) (p : ℕ) → AreBytes s → at ≤ length s → manyAt reportAt n s at ≡ ok rs p → ReportsBack rs s at p
+pub reports-back : (n : ℕ) (s : List ℕ) (at : ℕ) (rs : List Report) (p : ℕ) → AllBytes s → at ≤ length s → manyAt reportAt n s at ≡ ok rs p → ReportsBack rs s at p
 reports-back zero s at rs p b r h = go rs p (sym (many-none reportAt zero s at refl) ∙ h) where
   go : (rs : List Report) (p : ℕ) → ok [] at ≡ ok rs p → ReportsBack rs s at p
   go rs p e = rw (← same-value e, ← same-place e) (no-reports s at at r refl)

@@ -9,8 +9,8 @@ use lib.Dec.{eqb, leb}
 use lib.ListN.{length, take, replicate, length-append, length-map, length-take}
 use lib.Seq.{take-at}
 use Rattle.base.specs.Answer.{accepted, given, pick}
-use Rattle.numbers.specs.Numbers.{beBytes, beValue, beFrom, bytesFrom}
-use Rattle.numbers.proofs.NumberLaws.{AreBytes, length-be}
+use Rattle.numbers.specs.Numbers.{AllBytes, beBytes, beValue, beFrom, bytesFrom}
+use Rattle.numbers.proofs.NumberLaws.{length-be}
 use Rattle.xdr.specs.Items.{countAt, numAt}
 use Rattle.xdr.specs.Res.{Res, ok, no, then, whole, manyAt}
 use Rattle.xdr.proofs.Accepted.{ran, many-length, same-value, same-place}
@@ -119,7 +119,7 @@ read-all bs rs h =
     let c = ran _ _ _ _ (b .rest) in
     read-parts bs rs (a .item) (a .next) (b .item) (b .next) (c .item) (c .next) (a .first) (b .first) (c .first) (c .rest)
 
-body-back : (bs : List ℕ) (hs : List ReportHead) (es : List ErrorRecord) (n q : ℕ) → AreBytes bs → length hs ≡ n
+body-back : (bs : List ℕ) (hs : List ReportHead) (es : List ErrorRecord) (n q : ℕ) → AllBytes bs → length hs ≡ n
     → (0 + 4 ≤ length bs) × (n ≡ beValue (bytesFrom 4 bs 0)) × (4 ≡ 0 + 4) → Stands (reportsBytes hs es) bs 4 → q ≡ 4 + length (reportsBytes hs es)
     → (q + 4 ≤ length bs) × (0 ≡ beValue (bytesFrom 4 bs q)) × (length bs ≡ q + 4) → bodyBytes hs es ≡ bs
 unfolding bodyBytes
@@ -133,7 +133,7 @@ body-back bs hs es n q b e c w p z =
     whole-stands _ bs all (omega (arith, s, t, n4, length-be 4 0, p, z .2))
 
 -- Writing what was read gives the same bytes.
-pub writing-what-was-read : (bs : List ℕ) (rs : List Report) (room : ℕ) → AreBytes bs → length bs ≤ room → reportBody bs ≡ accepted rs
+pub writing-what-was-read : (bs : List ℕ) (rs : List Report) (room : ℕ) → AllBytes bs → length bs ≤ room → reportBody bs ≡ accepted rs
     → reportsWritten (length rs) (headsOf rs) (recordsIn bs rs) room ≡ accepted bs
 unfolding reportsWritten fitted pick given
 writing-what-was-read bs rs room b r h =

@@ -7,8 +7,8 @@ use borrow.Author.Tests.{le-leb}
 use lib.ListN.{length, take, drop, length-append}
 use lib.Seq.{drop-at, take-at, take-length}
 use Rattle.base.specs.Answer.{pick}
-use Rattle.numbers.specs.Numbers.{beAt, beBytes, beValue, bytesFrom}
-use Rattle.numbers.proofs.NumberLaws.{AreBytes, be-back, be-round, dropped-bytes, length-be, length-bytes, taken-bytes, two-parts}
+use Rattle.numbers.specs.Numbers.{AllBytes, beAt, beBytes, beValue, bytesFrom}
+use Rattle.numbers.proofs.NumberLaws.{be-back, be-round, dropped-bytes, length-be, length-bytes, taken-bytes, two-parts}
 use Rattle.xdr.specs.Res.{ok}
 use Rattle.xdr.specs.Items.{allZero, bytesAt, numAt, padding}
 
@@ -75,7 +75,7 @@ bytes-stand bs s at h w =
 
 -- ---- what stands where a number was read
 
-pub be-stands : (k : ℕ) (s : List ℕ) (at v : ℕ) → AreBytes s → at + k ≤ length s → v ≡ beValue (bytesFrom k s at) → Stands (beBytes k v) s at
+pub be-stands : (k : ℕ) (s : List ℕ) (at v : ℕ) → AllBytes s → at + k ≤ length s → v ≡ beValue (bytesFrom k s at) → Stands (beBytes k v) s at
 be-stands k s at v b r e =
     let n = length-be k v in
     let m : length (bytesFrom k s at) ≡ k = length-bytes k s at r in
@@ -87,6 +87,6 @@ bytes-are k s at r =
     let m : length (bytesFrom k s at) ≡ k = length-bytes k s at r in
     record { room = omega (arith, m); same = ap (λ (n : ℕ). bytesFrom n s at) m }
 
-pub be-at-stands : (k : ℕ) (s : List ℕ) (at : ℕ) → AreBytes s → at + k ≤ length s → Stands (beBytes k (beAt k s at)) s at
+pub be-at-stands : (k : ℕ) (s : List ℕ) (at : ℕ) → AllBytes s → at + k ≤ length s → Stands (beBytes k (beAt k s at)) s at
 unfolding beAt pick
 be-at-stands k s at b r = be-stands k s at (beAt k s at) b r (rw (le-leb (at + k) (length s) r))

@@ -1,4 +1,4 @@
--- Laws of what is stored: bytes stored one after the other, and how long each part of a body is.
+-- Laws of what is stored: how long each part of a body is, and the parts one behind the other.
 use Prim.Native.Nat.{ℕ, zero, suc, _+_, _-_, _*_, _≤_, _<_}
 use mathlib.Core.Path.{_≡_, refl, sym, ap, _∙_}
 use mathlib.Core.List.{List, [], _∷_, _++_}
@@ -12,23 +12,13 @@ use lib.Seq.{length-take-le, sets, sets-eq, length-sets}
 use Rattle.base.specs.Answer.{Answer, accepted, refused, given, pick}
 use Rattle.numbers.specs.Numbers.{beAt, beBytes, beValue, bytesFrom, stored}
 use Rattle.numbers.proofs.NumberLaws.{length-be, length-bytes}
-use Rattle.numbers.proofs.StoreLaws.{fits-stored, length-stored, sets-append}
+use Rattle.numbers.proofs.StoreLaws.{fits-stored, length-stored, sets-append, stored-then}
 use Rattle.xdr.proofs.Accepted.{both}
 use Rattle.report.specs.Reports.{errorFits}
 use Rattle.report.specs.declared.ReportHead.{ReportHead}
 use Rattle.report_write.specs.Writing.{after, allFit, bodyBytes, counts, ErrorRecord, errorBytes, errorsBytes, fitted, headBytes, judged, judgedOne, recordAt, recordHere, recordsFrom, reportsBytes, reportsWritten, stateidsWhole}
 use Rattle.report_write.specs.Answers.{lengthOf}
 use Rattle.report_write.proofs.RecordLaws.{allowed, drop-records, given-accepted, length-records, records-next, take-records}
-
--- ---- one part behind the other
-
-pub stored-then : (l : List ℕ) (at p : ℕ) (xs ys : List ℕ) → p ≡ at + length xs → p + length ys ≤ length l
-    → stored (stored l at xs) p ys ≡ stored l at (xs ++ ys)
-stored-then l at p xs ys e h =
-    let a : at + length xs ≤ length l = omega arith in
-    let b : p + length ys ≤ length (stored l at xs) = rw (length-stored l at xs) h in
-    let c : at + length (xs ++ ys) ≤ length l = simp length-append (omega arith) in
-    rw (fits-stored (stored l at xs) p ys b, fits-stored l at xs a, fits-stored l at (xs ++ ys) c, e) (sym (sets-append l at xs ys))
 
 -- ---- how long each part is
 

@@ -1,0 +1,5 @@
+pub mod PartLaws
+pub mod ZeroLaws
+pub mod SlotLaws
+pub mod StoreLaws
+pub mod LayLaws

@@ -1,0 +1,71 @@
+-- `store::slot::part` meets its contract: the bytes wanted, cut off where the slice ends.
+use Prim.Native.Nat.{_+_, _-_}
+use Rattle.store.proofs.PartLaws.{part-none, part-rest}
+use borrow.Author.Needs.{needs}
+use denote.Ref.{now}
+use lib.ListN.{length}
+use mathlib.Core.Path.{_≡_, sym, _∙_}
+use native.Mathlib.Omega.{arith}
+use Rattle.store.proofs.slot.part.Statement.{statement}
+use Rattle.store.proofs.slot.part.Tie as tie
+
+sub-result : tie.Need-sub-result
+sub-result c = search needs
+
+part-result-start : tie.Need-part-result-start
+part-result-start c = search needs
+
+part-result-end : tie.Need-part-result-end
+part-result-end c = search needs
+
+returns : tie.Need-returns
+returns c =
+    let a = c .before .before .args in
+    let s = now (a .s) in
+    part-none (length s - length s) s (length s) (omega arith) ∙ sym (part-none (a .n) s (a .at) (omega arith))
+
+part-result-start-2 : tie.Need-part-result-start-2
+part-result-start-2 c = search needs
+
+part-result-end-2 : tie.Need-part-result-end-2
+part-result-end-2 c = search needs
+
+returns-2 : tie.Need-returns-2
+returns-2 c =
+    let a = c .before .before .before .args in
+    part-rest (a .n) (now (a .s)) (a .at) (omega arith)
+
+add-end : tie.Need-add-end
+add-end c = search needs
+
+sub-result-2 : tie.Need-sub-result-2
+sub-result-2 c = search needs
+
+part-result-start-3 : tie.Need-part-result-start-3
+part-result-start-3 c = search needs
+
+part-result-end-3 : tie.Need-part-result-end-3
+part-result-end-3 c = search needs
+
+returns-3 : tie.Need-returns-3
+returns-3 c =
+    let a = c .before .before .before .args in
+    let e : a .at + a .n - a .at ≡ a .n = omega arith in
+    rw e
+
+pub part-spec : {M : Type 1} → statement M
+part-spec =
+    tie.close
+    (tie.spec
+    sub-result
+    part-result-start
+    part-result-end
+    returns
+    part-result-start-2
+    part-result-end-2
+    returns-2
+    add-end
+    sub-result-2
+    part-result-start-3
+    part-result-end-3
+    returns-3)

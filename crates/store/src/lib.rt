@@ -1,0 +1,23 @@
+// The body store, eight slots in 32,768 borrowed bytes: what a slot holds, a body laid into it, and a slot cleared.
+use base::SlotNumber;
+ghost use mathlib.Core.Path.{_≡_};
+ghost use Prim.Native.Nat.{_*_};
+
+mod lay;
+mod slot;
+mod zero;
+
+pub use lay::clear_slot;
+pub use lay::lay_body;
+pub use slot::slot_body;
+pub use slot::slot_bytes;
+pub use slot::slot_kind;
+pub use slot::slot_length;
+pub use zero::all_zero;
+
+// Where a slot begins.
+fn start(i: SlotNumber) -> usize
+    ensures { λ r. ⌜ r ≡ i .0 * 4096 ⌝ }
+{
+    i.0 as usize * 4096
+}

@@ -1,0 +1,46 @@
+// What stands in a slot: its bytes, and the length, kind and body that they say.
+use crate::start;
+use base::SlotNumber;
+ghost use mathlib.Core.Path.{_≡_};
+ghost use Rattle.numbers.specs.Numbers.{bytesFrom};
+ghost use Rattle.store.specs.Store.{bodyIn, kindIn, lengthIn, slotAt};
+
+// The n bytes from a place; fewer where the bytes run out.
+fn part(s: &[u8], at: usize, n: usize) -> &[u8]
+    ensures { λ r. ⌜ now r ≡ bytesFrom n (now (s .entry)) at ⌝ }
+{
+    let len = s.len();
+    if len < at {
+        return &s[len..len];
+    }
+    if len - at < n {
+        return &s[at..len];
+    }
+    let end = at + n;
+    &s[at..end]
+}
+
+pub fn slot_bytes(store: &[u8], i: SlotNumber) -> &[u8]
+    ensures { λ r. ⌜ now r ≡ slotAt (now (store .entry)) (i .0) ⌝ }
+{
+    part(store, start(i), 4096)
+}
+
+pub fn slot_length(slot: &[u8]) -> u32
+    ensures { λ r. ⌜ r ≡ lengthIn (now (slot .entry)) ⌝ }
+{
+    numbers::le4(slot, 0)
+}
+
+pub fn slot_kind(slot: &[u8]) -> u32
+    ensures { λ r. ⌜ r ≡ kindIn (now (slot .entry)) ⌝ }
+{
+    numbers::le2(slot, 4)
+}
+
+pub fn slot_body(slot: &[u8]) -> &[u8]
+    ensures { λ r. ⌜ now r ≡ bodyIn (now (slot .entry)) ⌝ }
+{
+    let n = slot_length(slot) as usize;
+    part(slot, 6, n)
+}
