@@ -1,0 +1,4 @@
+pub mod Canon
+pub mod ScanLaws
+pub mod Fewest
+pub mod SegmentTests

@@ -1,0 +1,71 @@
+// The segments of a table: which bytes have which right, in each iomode.
+use base::SlotNumber;
+ghost use mathlib.Core.Path.{_≡_};
+ghost use Rattle.segments.specs.Segments.{emptyTable, sameRight};
+
+// The number names the slot of the layout body under which the bytes are held.
+pub enum Right {
+    None,
+    Granted(SlotNumber),
+    Recalled(SlotNumber),
+}
+
+// The bytes from first to last, both included.
+pub struct Segment {
+    pub first: u64,
+    pub last: u64,
+    pub right: Right,
+}
+
+// The segments of one iomode, in the first count places.
+pub struct Segments {
+    pub items: [Segment; 32],
+    pub count: usize,
+}
+
+pub struct Table {
+    pub read: Segments,
+    pub rw: Segments,
+}
+
+// What stands in an unused place.
+pub const BLANK: Segment = Segment {
+    first: 0,
+    last: 0,
+    right: Right::None,
+};
+
+pub fn same_right(a: Right, b: Right) -> bool
+    ensures { λ r. ⌜ r ≡ sameRight a b ⌝ }
+{
+    match a {
+        Right::None => match b {
+            Right::None => true,
+            Right::Granted(_) => false,
+            Right::Recalled(_) => false,
+        },
+        Right::Granted(x) => match b {
+            Right::None => false,
+            Right::Granted(y) => x.0 == y.0,
+            Right::Recalled(_) => false,
+        },
+        Right::Recalled(x) => match b {
+            Right::None => false,
+            Right::Granted(_) => false,
+            Right::Recalled(y) => x.0 == y.0,
+        },
+    }
+}
+
+pub fn empty_table() -> Table
+    ensures { λ r. ⌜ r ≡ emptyTable ⌝ }
+{
+    let none = Segments {
+        items: [BLANK; 32],
+        count: 0,
+    };
+    Table {
+        read: none,
+        rw: none,
+    }
+}

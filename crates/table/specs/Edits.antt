@@ -1,0 +1,105 @@
+-- The edits of a list of segments, as lists: cut at the ends of the range, change what lies between, join what touches.
+use Prim.Native.Nat.{ℕ, _+_, _-_, max, min}
+use mathlib.Core.Bool.{Bool, true, false, _&&_}
+use mathlib.Core.List.{List, [], _∷_, _++_}
+use lib.ListN.{length}
+use lib.Dec.{leb, ltb, eqb}
+use Rattle.base.specs.Answer.{pick}
+use Rattle.base.specs.declared.iomode.Iomode.{Iomode}
+use Rattle.segments.specs.declared.Right.{Right}
+use Rattle.segments.specs.declared.Right.the-variants.{None, Granted, Recalled}
+use Rattle.segments.specs.declared.Segment.{Segment}
+use Rattle.segments.specs.declared.Segments.{Segments}
+use Rattle.segments.specs.declared.Table.{Table}
+use Rattle.segments.specs.Segments.{READ, RW, actsOn, inPlaces, listOf, sameRight, within}
+use Rattle.table.specs.declared.change.Change.{Change}
+use Rattle.table.specs.declared.change.Change.the-variants.{Grant, Clear, Recall}
+use Rattle.table.specs.declared.change.Edited.{Edited}
+use Rattle.table.specs.declared.change.EditedTable.{EditedTable}
+
+-- ---- one segment more, behind a list
+
+-- "Neighbours that touch with the same right and body are one segment."
+unfoldable pub touching : Segment → Segment → Bool
+touching a s = eqb (a .last + 1) (s .first) && sameRight (a .right) (s .right)
+
+unfoldable pub pushTo : Segment → List Segment → Segment → List Segment
+pushTo a [] s = pick (touching a s) (record { first = a .first; last = s .last; right = a .right } ∷ []) (a ∷ s ∷ [])
+pushTo a (b ∷ l) s = a ∷ pushTo b l s
+
+unfoldable pub pushSeg : List Segment → Segment → List Segment
+pushSeg [] s = s ∷ []
+pushSeg (a ∷ l) s = pushTo a l s
+
+unfoldable pub pushAll : List Segment → List Segment → List Segment
+pushAll acc [] = acc
+pushAll acc (s ∷ l) = pushAll (pushSeg acc s) l
+
+-- ---- the parts of the segments before, inside and after a range
+
+unfoldable pub before : ℕ → Segment → List Segment
+before lo s = pick (ltb (s .first) lo) (record { first = s .first; last = min (s .last) (lo - 1); right = s .right } ∷ []) []
+
+unfoldable pub after : ℕ → Segment → List Segment
+after hi s = pick (ltb hi (s .last)) (record { first = max (s .first) (hi + 1); last = s .last; right = s .right } ∷ []) []
+
+-- "A recall turns granted into recalled and nothing else."
+abbrev pub recalledOf : Right → Right
+recalledOf None = None
+recalledOf (Granted s) = Recalled s
+recalledOf (Recalled s) = Recalled s
+
+unfoldable pub inside : ℕ → ℕ → Segment → List Segment
+inside lo hi s =
+    pick (leb (s .first) hi && leb lo (s .last))
+    (record { first = max (s .first) lo; last = min (s .last) hi; right = recalledOf (s .right) } ∷ [])
+    []
+
+-- the parts of all segments, in order
+unfoldable pub parts : (Segment → List Segment) → List Segment → List Segment
+parts g [] = []
+parts g (s ∷ l) = g s ++ parts g l
+
+-- ---- the edits
+
+-- what stands in the range afterwards
+unfoldable pub middle : Change → ℕ → ℕ → List Segment → List Segment
+middle (Grant s) lo hi l = record { first = lo; last = hi; right = Granted s } ∷ []
+middle Clear lo hi l = []
+middle Recall lo hi l = parts (inside lo hi) l
+
+unfoldable pub edited : Change → ℕ → ℕ → List Segment → List Segment
+edited c lo hi l = pushAll [] (parts (before lo) l ++ (middle c lo hi l ++ parts (after hi) l))
+
+-- the same, byte by byte
+
+abbrev pub changedRight : Change → Right → Right
+changedRight (Grant s) r = Granted s
+changedRight Clear r = None
+changedRight Recall r = recalledOf r
+
+unfoldable pub changedFun : Change → ℕ → ℕ → (ℕ → Right) → ℕ → Right
+changedFun c lo hi f x = pick (within lo hi x) (changedRight c (f x)) (f x)
+
+-- "more than 32 segments in an iomode": nothing is changed
+unfoldable pub editedIn : Change → ℕ → ℕ → Segments → Edited
+editedIn c lo hi g =
+    pick (leb (length (edited c lo hi (listOf g))) 32)
+    (record { segments = inPlaces (edited c lo hi (listOf g)); fits = true })
+    (record { segments = g; fits = false })
+
+-- in an iomode that the event does not act on, nothing changes
+abbrev pub editedWhere : Bool → Change → ℕ → ℕ → Segments → Edited
+editedWhere true c lo hi g = editedIn c lo hi g
+editedWhere false c lo hi g = record { segments = g; fits = true }
+
+-- "23 for either refuses the whole event"
+abbrev pub bothFit : Table → Edited → Edited → EditedTable
+bothFit t r w =
+    pick (r .fits && w .fits)
+    (record { table = record { read = r .segments; rw = w .segments }; fits = true })
+    (record { table = t; fits = false })
+
+unfoldable pub tableEdited : Change → Iomode → ℕ → ℕ → Table → EditedTable
+tableEdited c i lo hi t =
+    bothFit t (editedWhere (actsOn i READ) c lo hi (t .read)) (editedWhere (actsOn i RW) c lo hi (t .rw))
