@@ -1,0 +1,222 @@
+-- What holds of the model after every list of events.
+use Prim.Native.Nat.{ℕ, zero, suc, _≤_, _<_}
+use mathlib.Core.Path.{_≡_, refl, sym, ap, _∙_}
+use mathlib.Core.Logic.{⊎-elim}
+use mathlib.Core.Bool.{Bool, true, false, _||_, false≢true, or-true}
+use mathlib.Core.List.{List, [], map}
+use native.Mathlib.Omega.{arith}
+use borrow.Author.Tests.{ltb-false}
+use lib.Dec.{ltb}
+use lib.ListN.{length, getD, replicate, length-map}
+use Rattle.numbers.proofs.SameLaws.{same-refl}
+use Rattle.numbers.specs.Numbers.{AllBytes}
+use Rattle.base.specs.Answer.{Answer, accepted, refused, pick}
+use Rattle.layout.specs.Layouts.{layoutBody}
+use Rattle.segments.specs.declared.Right.the-variants as table
+use Rattle.segments.specs.Segments.{Mode, READ, RW, anyBelow, segmentsOf}
+use Rattle.segments.proofs.Canon.{Below, Canon, at-none}
+use Rattle.segments.proofs.Fewest.{scan-only}
+use Rattle.segments.proofs.ScanLaws.{any-some}
+use Rattle.store.specs.Store.{Body, Slot, empty, holds}
+use Rattle.reference.specs.Model.{
+  ByteRight,
+  none,
+  granted,
+  recalled,
+  Deed,
+  grants,
+  returns,
+  recalls,
+  revokes,
+  Model,
+  Order,
+  act,
+  afterAt,
+  anyByte,
+  covers,
+  ifAccepted,
+  ifNamed,
+  inSlots,
+  isUnder,
+  meets,
+  modelAfter,
+  placed,
+  refuse,
+  rightAfter,
+  segmentsIn,
+  slotOf,
+  start,
+  stops21,
+  stops22,
+  stops24,
+  stops25,
+  tooMany,
+  verdict,
+}
+use Rattle.reference.specs.Sound.{isAccepted, noTwoAlike}
+use Rattle.reference.proofs.SlotLaws.{emptied-apart, emptied-held, granted-in, empty-holds, in-small, named-in, placed-apart, placed-held, placed-in, placed-length}
+
+-- ---- bodies that an event may bring
+
+pub record GoodBody (b : Body) : Type 0 where
+  pub read : isAccepted (layoutBody b) ≡ true
+  pub small : length b ≤ 4090
+  pub bytes : AllBytes b
+
+abbrev pub GoodDeed : Deed → Type 0
+GoodDeed (grants b) = GoodBody b
+GoodDeed returns = Unit {0}
+GoodDeed recalls = Unit {0}
+GoodDeed revokes = Unit {0}
+
+abbrev pub GoodOrder : Answer Order → Type 0
+GoodOrder (accepted o) = GoodDeed (o .deed)
+GoodOrder (refused n) = Unit {0}
+
+-- ---- what the verdict 0 says
+
+pub record Passes (N : ℕ) (o : Order) (M : Model) : Type 0 where
+  pub not-21 : meets N o (stops21 (o .deed)) M ≡ false
+  pub not-22 : meets N o (stops22 (o .deed)) M ≡ false
+  pub not-25 : stops25 N (o .deed) o M ≡ false
+  pub not-24 : stops24 (o .deed) (M .slots) ≡ false
+  pub not-23 : tooMany N (act N o M) ≡ false
+
+refuse-zero : (n : ℕ) (t : Bool) (next : ℕ) → refuse (suc n) t next ≡ 0 → (t ≡ false) × (next ≡ 0)
+refuse-zero n true next e = absurd (omega arith)
+refuse-zero n false next e = (refl, e)
+
+pub passes : (N : ℕ) (o : Order) (M : Model) → verdict N o M ≡ 0 → Passes N o M
+unfolding verdict
+passes N o M e =
+    let a = refuse-zero 20 _ _ e in
+    let b = refuse-zero 21 _ _ (a .1) in
+    let c = refuse-zero 24 _ _ (b .1) in
+    let d = refuse-zero 23 _ _ (c .1) in
+    let f = refuse-zero 22 _ _ (d .1) in
+    record { not-21 = a .0; not-22 = b .0; not-25 = c .0; not-24 = d .0; not-23 = f .0 }
+
+-- ---- the invariant
+
+-- the body of a right is in a slot
+abbrev pub Housed : List Slot → ByteRight → Type 0
+Housed ss none = Unit {0}
+Housed ss (granted b) = inSlots b ss ≡ true
+Housed ss (recalled b) = inSlots b ss ≡ true
+
+pub record Inv (N : ℕ) (M : Model) : Type 0 where
+  pub eight : length (M .slots) ≡ 8
+  pub apart : noTwoAlike (M .slots) ≡ true
+  pub good : (i : ℕ) (b : Body) → getD (M .slots) i empty ≡ holds b → GoodBody b
+  pub housed : (m : Mode) (x : ℕ) → x ≤ N → Housed (M .slots) (M .right m x)
+  pub few : (m : Mode) → length (segmentsIn N M m) ≤ 32
+  pub named : (i : ℕ) (b : Body) → getD (M .slots) i empty ≡ holds b → anyByte N (λ m x. isUnder b (M .right m x)) ≡ true
+
+-- a body in a slot is in one of the eight
+pub slot-below : (N : ℕ) (M : Model) (b : Body) → Inv N M → inSlots b (M .slots) ≡ true → slotOf b (M .slots) < 8
+slot-below N M b v h = let k : length (M .slots) ≡ 8 = v .eight in let i = in-small b (M .slots) h in omega arith
+
+-- ---- at the start
+
+all-empty : (n i : ℕ) → getD (replicate n empty) i empty ≡ empty
+all-empty zero i = refl
+all-empty (suc n) zero = refl
+all-empty (suc n) (suc i) = all-empty n i
+
+pub no-segments : (N : ℕ) → [] ≡ segmentsOf N (λ x. table.None)
+unfolding Canon Below
+no-segments N = scan-only N (λ x. table.None) [] tt tt (λ x h. at-none x)
+
+pub start-keeps : (N : ℕ) → Inv N start
+unfolding noTwoAlike segmentsIn
+start-keeps N =
+    record {
+      eight = refl;
+      apart = refl;
+      good = λ i b h. absurd (empty-holds b (sym (all-empty 8 i) ∙ h));
+      housed = λ m x h. tt;
+      few = λ m. rw (← no-segments N) (omega arith);
+      named = λ i b h. absurd (empty-holds b (sym (all-empty 8 i) ∙ h));
+    }
+
+-- ---- an order that passes
+
+pub any-byte : (N : ℕ) (p : Mode → ℕ → Bool) (m : Mode) (x : ℕ) → x ≤ N → p m x ≡ true → anyByte N p ≡ true
+unfolding anyByte
+any-byte N p READ x h e = rw (any-some (p READ) (suc N) x (omega arith) e)
+any-byte N p RW x h e = rw (any-some (p RW) (suc N) x (omega arith) e) (or-true (anyBelow (p READ) (suc N)))
+
+-- the body of a right after an order is in a slot, once the order's own is placed
+placed-housed : (ss : List Slot) (d : Deed) (r : ByteRight) → stops24 d ss ≡ false → Housed ss r → Housed (placed d ss) (rightAfter d r)
+placed-housed ss (grants b) r n h = granted-in b ss n
+placed-housed ss returns r n h = tt
+placed-housed ss recalls none n h = tt
+placed-housed ss recalls (granted b) n h = h
+placed-housed ss recalls (recalled b) n h = h
+placed-housed ss revokes r n h = tt
+
+still-housed : (ss : List Slot) (d : Deed) (r : ByteRight) → Housed ss r → Housed (placed d ss) r
+still-housed ss d none h = tt
+still-housed ss d (granted b) h = placed-in d b ss h
+still-housed ss d (recalled b) h = placed-in d b ss h
+
+after-housed : (ss : List Slot) (o : Order) (m : Mode) (x : ℕ) (r : ByteRight) → stops24 (o .deed) ss ≡ false → Housed ss r
+    → Housed (placed (o .deed) ss) (afterAt o m x r)
+unfolding afterAt pick
+after-housed ss o m x r n h = go (covers o m x)
+  where
+    go : (t : Bool) → Housed (placed (o .deed) ss) (pick t (rightAfter (o .deed) r) r)
+    go true = placed-housed ss (o .deed) r n h
+    go false = still-housed ss (o .deed) r h
+
+-- and stays there, since the right names it
+named-housed : (N : ℕ) (right : Mode → ℕ → ByteRight) (ss : List Slot) (m : Mode) (x : ℕ) → x ≤ N
+    → Housed ss (right m x) → Housed (map (ifNamed N right) ss) (right m x)
+named-housed N right ss m x h k = go (right m x) refl k
+  where
+    go : (r : ByteRight) → right m x ≡ r → Housed ss r → Housed (map (ifNamed N right) ss) r
+    go none e j = tt
+    go (granted b) e j =
+        named-in N right b ss (any-byte N (λ m x. isUnder b (right m x)) m x h (ap (isUnder b) e ∙ same-refl b)) j
+    go (recalled b) e j =
+        named-in N right b ss (any-byte N (λ m x. isUnder b (right m x)) m x h (ap (isUnder b) e ∙ same-refl b)) j
+
+few-of : (N : ℕ) (M : Model) → tooMany N M ≡ false → (m : Mode) → length (segmentsIn N M m) ≤ 32
+unfolding tooMany
+few-of N M e = go (ltb 32 (length (segmentsIn N M READ))) (ltb 32 (length (segmentsIn N M RW))) refl refl e
+  where
+    go : (t u : Bool) → ltb 32 (length (segmentsIn N M READ)) ≡ t → ltb 32 (length (segmentsIn N M RW)) ≡ u → (t || u) ≡ false
+        → (m : Mode) → length (segmentsIn N M m) ≤ 32
+    go true u h k f m = absurd (false≢true (sym f))
+    go false true h k f m = absurd (false≢true (sym f))
+    go false false h k f READ = ltb-false 32 (length (segmentsIn N M READ)) h
+    go false false h k f RW = ltb-false 32 (length (segmentsIn N M RW)) k
+
+good-placed : (d : Deed) (ss : List Slot) → GoodDeed d → ((i : ℕ) (b : Body) → getD ss i empty ≡ holds b → GoodBody b)
+    → (i : ℕ) (b : Body) → getD (placed d ss) i empty ≡ holds b → GoodBody b
+good-placed d ss g h i b k = ⊎-elim (λ e. h i b e) (λ e. rw e at g) (placed-held d b ss i k)
+
+pub act-keeps : (N : ℕ) (o : Order) (M : Model) → GoodDeed (o .deed) → Passes N o M → Inv N M → Inv N (act N o M)
+unfolding act
+act-keeps N o M g p v =
+    let right : Mode → ℕ → ByteRight = λ m x. afterAt o m x (M .right m x) in
+    let ss = placed (o .deed) (M .slots) in
+    record {
+      eight = length-map ss (ifNamed N right) ∙ (placed-length (o .deed) (M .slots) ∙ v .eight);
+      apart = emptied-apart N right ss (placed-apart (o .deed) (M .slots) (v .apart));
+      good = λ i b h. good-placed (o .deed) (M .slots) g (v .good) i b (emptied-held N right b ss i h .0);
+      housed = λ m x h. named-housed N right ss m x h (after-housed (M .slots) o m x (M .right m x) (p .not-24) (v .housed m x h));
+      few = few-of N (act N o M) (p .not-23);
+      named = λ i b h. emptied-held N right b ss i h .1;
+    }
+
+-- ---- an event, and a list of them
+
+pub after-keeps : (N : ℕ) (a : Answer Order) (M : Model) → GoodOrder a → Inv N M → Inv N (modelAfter N a M)
+unfolding modelAfter
+after-keeps N (refused n) M g v = v
+after-keeps N (accepted o) M g v = go (verdict N o M) refl
+  where
+    go : (n : ℕ) → verdict N o M ≡ n → Inv N (ifAccepted n (act N o M) M)
+    go zero e = act-keeps N o M g (passes N o M e) v
+    go (suc n) e = v

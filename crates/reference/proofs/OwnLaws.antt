@@ -1,0 +1,230 @@
+-- What holds of an event whose own bytes and numbers are accepted: the granted body, and the range.
+use Prim.Native.Nat.{ℕ, zero, suc, _+_, _-_, _*_, _^_, _≤_, _<_}
+use mathlib.Core.Path.{_≡_, refl, sym, ap, ap₂, _∙_}
+use mathlib.Core.Bool.{Bool, true, false}
+use mathlib.Core.List.{List, [], _∷_}
+use native.Mathlib.Nat.{pow-suc, mul-le-mul-right}
+use native.Mathlib.Omega.{arith}
+use borrow.Author.Tests.{eqb-true, leb-true}
+use lib.Dec.{eqb, leb}
+use lib.ListN.{length, drop}
+use Rattle.base.specs.Answer.{Answer, accepted, refused, given, pick}
+use Rattle.base.specs.Iomodes.{iomodeOf}
+use Rattle.base.specs.Ranges.{lastByte, largestSum, rangeLast, requestLast, toTheEnd}
+use Rattle.base.specs.declared.iomode.Iomode.{Iomode}
+use Rattle.numbers.specs.Numbers.{AllBytes, beBytes, beValue, bytesFrom}
+use Rattle.numbers.proofs.NumberLaws.{be-append, be-round, be-snoc, dropped-bytes, length-bytes, taken-bytes}
+use Rattle.xdr.specs.Res.{Res, ok, no, inside, whole}
+use Rattle.xdr.proofs.Accepted.{bytes-read, count-read, never, number-read, passed, ran, same-place, same-value}
+use Rattle.layout.specs.Layouts.{layoutBody}
+use Rattle.layout4.specs.Layout4s.{Whole, frameAt, layout4, layout4At, rangeAt}
+use Rattle.layout4.specs.declared.frame.Range.{Range}
+use Rattle.layout4.specs.declared.frame.Frame.{Frame}
+use Rattle.reference.specs.Model.{Deed, returns, recalls, Event, Grant, Return, Recall, Revoke, Order, grantOrder, own, rangeOrder}
+use Rattle.reference.specs.Sound.{isAccepted}
+use Rattle.reference.specs.Claim.{Fits}
+use Rattle.reference.proofs.Inv.{GoodOrder}
+
+-- ---- answers that were accepted
+
+refused-not : {A B : Type 0} (n : ℕ) (a : A) → refused n ≡ accepted a → B
+refused-not n a e = let z : _≡_ {A = ℕ} 0 1 = cc in absurd (omega arith)
+
+same-answer : {A : Type 0} {a b : A} → accepted a ≡ accepted b → a ≡ b
+same-answer e = cc
+
+-- the question before an accepted one, and the one behind it
+record Gave {A B : Type 0} (x : Answer A) (f : A → Answer B) (b : B) : Type 0 where
+  item : A
+  first : x ≡ accepted item
+  rest : f item ≡ accepted b
+
+gave : {A B : Type 0} (x : Answer A) (f : A → Answer B) (b : B) → given x f ≡ accepted b → Gave x f b
+unfolding given
+gave (accepted a) f b h = record { item = a; first = refl; rest = h }
+gave (refused n) f b h = refused-not n b h
+
+read-whole : {A : Type 0} (s : List ℕ) (x : Res A) (a : A) → whole s x ≡ accepted a → x ≡ ok a (length s)
+unfolding whole pick
+read-whole s (ok b p) a e = go (eqb p (length s)) refl e
+  where
+    go : (t : Bool) → eqb p (length s) ≡ t → pick t (accepted b) (refused 2) ≡ accepted a → ok b p ≡ ok a (length s)
+    go true h k = let f : b ≡ a = same-answer k in let g : p ≡ length s = eqb-true p (length s) h in rw (f, g)
+    go false h k = refused-not 2 a k
+read-whole s (no n) a e = refused-not n a e
+
+inside-read : {A : Type 0} (x : Answer A) (p : ℕ) (a : A) (q : ℕ) → inside x p ≡ ok a q → (x ≡ accepted a) × (p ≡ q)
+unfolding inside
+inside-read (accepted b) p a q e = (ap accepted (same-value e), same-place e)
+inside-read (refused n) p a q e = never n a q e
+
+-- ---- ranges
+
+pub range-ends : (offset len last : ℕ) → offset < 2 ^ 64 → rangeLast offset len ≡ accepted last → (offset ≤ last) × (last ≤ lastByte)
+unfolding rangeLast requestLast pick
+range-ends offset len last h e = go (eqb len toTheEnd) (leb 1 len) (leb (offset + len) largestSum) refl refl e
+  where
+    go : (t u w : Bool) → leb 1 len ≡ u → leb (offset + len) largestSum ≡ w
+        → pick t (accepted lastByte) (pick u (pick w (accepted (offset + len - 1)) (refused 5)) (refused 5)) ≡ accepted last
+        → (offset ≤ last) × (last ≤ lastByte)
+    go true u w j k f = let p : lastByte ≡ last = same-answer f in omega arith
+    go false true true j k f =
+        let p : offset + len - 1 ≡ last = same-answer f in
+        let a : 1 ≤ len = leb-true 1 len j in
+        let b : offset + len ≤ largestSum = leb-true (offset + len) largestSum k in
+        omega arith
+    go false true false j k f = refused-not 5 last f
+    go false false w j k f = refused-not 5 last f
+
+-- ---- bytes
+
+pub be-small : (bs : List ℕ) → AllBytes bs → beValue bs < 256 ^ length bs
+unfolding beBytes
+be-small [] h = let z : beValue [] ≡ 0 = be-round 0 0 (omega arith) in omega arith
+be-small (b ∷ bs) h =
+    let P = 256 ^ length bs in
+    let k : beValue bs < P = be-small bs (λ i. h (suc i)) in
+    let c : b < 256 = h 0 in
+    let z : beValue [] ≡ 0 = be-round 0 0 (omega arith) in
+    let d : beValue (b ∷ []) ≡ b = be-snoc [] b ∙ omega arith in
+    let m : b * P ≤ 255 * P = mul-le-mul-right P (omega arith) in
+    let e : beValue (b ∷ bs) ≡ b * P + beValue bs = be-append (b ∷ []) bs ∙ ap (λ (n : ℕ). n * P + beValue bs) d in
+    let q : 256 ^ suc (length bs) ≡ P * 256 = pow-suc 256 (length bs) in
+    omega arith
+
+-- ---- an accepted layout4
+
+pub record Read4 (s : List ℕ) (w : Whole) : Type 0 where
+  pub body : layoutBody (bytesFrom (w .frame .body .len) s (w .frame .body .start)) ≡ accepted (w .body)
+  pub size : w .frame .body .len ≤ 4090
+  pub within : w .frame .body .start + w .frame .body .len ≤ length s
+  pub offset : w .frame .offset ≡ beValue (bytesFrom 8 s 0)
+  pub eight : 8 ≤ length s
+  pub range : rangeLast (w .frame .offset) (w .frame .length) ≡ accepted (w .frame .last)
+
+range-read : (s : List ℕ) (at : ℕ) (r : Range) (p : ℕ) → rangeAt s at ≡ ok r p
+    → (r .offset ≡ beValue (bytesFrom 8 s at)) × (at + 8 ≤ length s) × (rangeLast (r .offset) (r .length) ≡ accepted (r .last))
+unfolding rangeAt
+range-read s at r p h =
+    let a = ran _ _ r p h in
+    let n = number-read 8 s at (a .item) (a .next) (a .first) in
+    let b = ran _ _ r p (a .rest) in
+    let c = ran _ _ r p (b .rest) in
+    let l = inside-read (rangeLast (a .item) (b .item)) (b .next) (c .item) (c .next) (c .first) in
+    let e : record { offset = a .item; length = b .item; last = c .item } ≡ r = same-value (c .rest) in
+    let eo : a .item ≡ r .offset = ap (λ (x : Range). x .offset) e in
+    let el : b .item ≡ r .length = ap (λ (x : Range). x .length) e in
+    let em : c .item ≡ r .last = ap (λ (x : Range). x .last) e in (
+      sym eo ∙ n .value,
+      omega (arith, n .end, n .within),
+      sym (ap₂ rangeLast eo el) ∙ (l .0 ∙ ap accepted em),
+    )
+
+frame-read : (s : List ℕ) (at : ℕ) (f : Frame) (p : ℕ) → frameAt s at ≡ ok f p
+    → (f .range .offset ≡ beValue (bytesFrom 8 s at)) × (at + 8 ≤ length s) × (rangeLast (f .range .offset) (f .range .length) ≡ accepted (f .range .last)) × (f .size ≤ 4090)
+unfolding frameAt
+frame-read s at f p h =
+    let a = ran _ _ f p h in
+    let r = range-read s at (a .item) (a .next) (a .first) in
+    let b = ran _ _ f p (a .rest) in
+    let c = ran _ _ f p (b .rest) in
+    let d = ran _ _ f p (c .rest) in
+    let t = passed _ _ 4 f p (d .rest) in
+    let k = ran _ _ f p (t .chosen) in
+    let n = count-read 0 4090 s (d .next) (k .item) (k .next) (k .first) in
+    let e : record { range = a .item; iomode = c .item; size = k .item } ≡ f = same-value (k .rest) in
+    let er : a .item ≡ f .range = ap (λ (x : Frame). x .range) e in
+    let es : k .item ≡ f .size = ap (λ (x : Frame). x .size) e in (
+      ap (λ (x : Range). x .offset) (sym er) ∙ r .0,
+      r .1,
+      rw (← er) (r .2),
+      omega (arith, n .high),
+    )
+
+pub layout4-read : (s : List ℕ) (w : Whole) → layout4 s ≡ accepted w → Read4 s w
+unfolding layout4 layout4At
+layout4-read s w h =
+    let q = read-whole s (layout4At s) w h in
+    let a = ran _ _ w (length s) q in
+    let f = frame-read s 0 (a .item) (a .next) (a .first) in
+    let t = passed _ _ 1 w (length s) (a .rest) in
+    let b = ran _ _ w (length s) (t .chosen) in
+    let l = inside-read (layoutBody (bytesFrom (a .item .size) s (a .next))) (a .next) (b .item) (b .next) (b .first) in
+    let c = ran _ _ w (length s) (b .rest) in
+    let k = bytes-read (a .item .size) s (b .next) (c .item) (c .next) (c .first) in
+    let e = same-value (c .rest) in
+    rw (← e, k .value, ← l .1)
+    (record {
+      body = l .0;
+      size = f .3;
+      within = omega (arith, k .end, k .within);
+      offset = f .0;
+      eight = f .1;
+      range = f .2;
+    })
+
+-- ---- the granted body, and the range of every event
+
+pub own-small : (e : Event) → Fits e → GoodOrder (own e)
+unfolding own given grantOrder rangeOrder
+own-small (Grant bytes) h = go (layout4 bytes) refl
+  where
+    go : (a : Answer Whole) → layout4 bytes ≡ a → GoodOrder (given a λ w. accepted (grantOrder bytes w))
+    go (refused n) e = tt
+    go (accepted w) e =
+        let r = layout4-read bytes w e in
+        let n = w .frame .body .len in
+        let at = w .frame .body .start in
+        record {
+          read = ap isAccepted (r .body);
+          small = let l : length (bytesFrom n bytes at) ≡ n = length-bytes n bytes at (r .within) in omega (arith, r .size);
+          bytes = taken-bytes n (drop at bytes) (dropped-bytes at bytes h);
+        }
+own-small (Return offset len number) h = go (rangeLast offset len) (iomodeOf number)
+  where
+    go : (a : Answer ℕ) (b : Answer Iomode)
+        → GoodOrder (given a λ last. given b λ iomode. accepted (record { deed = returns; iomode = iomode; first = offset; last = last }))
+    go (accepted last) (accepted m) = tt
+    go (accepted last) (refused n) = tt
+    go (refused n) b = tt
+own-small (Recall offset len number) h = go (rangeLast offset len) (iomodeOf number)
+  where
+    go : (a : Answer ℕ) (b : Answer Iomode)
+        → GoodOrder (given a λ last. given b λ iomode. accepted (record { deed = recalls; iomode = iomode; first = offset; last = last }))
+    go (accepted last) (accepted m) = tt
+    go (accepted last) (refused n) = tt
+    go (refused n) b = tt
+own-small Revoke h = tt
+
+range-order : (d : Deed) (offset len number : ℕ) (o : Order) → offset < 2 ^ 64 → rangeOrder d offset len number ≡ accepted o
+    → (o .first ≤ o .last) × (o .last ≤ lastByte)
+unfolding rangeOrder
+range-order d offset len number o h e =
+    let a = gave (rangeLast offset len) _ o e in
+    let b = gave (iomodeOf number) _ o (a .rest) in
+    let r = range-ends offset len (a .item) h (a .first) in
+    let f : record { deed = d; iomode = b .item; first = offset; last = a .item } ≡ o = same-answer (b .rest) in
+    let ef : offset ≡ o .first = ap (λ (x : Order). x .first) f in
+    let el : a .item ≡ o .last = ap (λ (x : Order). x .last) f in
+    (omega (arith, r .0), omega (arith, r .1))
+
+pub own-range : (e : Event) (o : Order) → Fits e → own e ≡ accepted o → (o .first ≤ o .last) × (o .last ≤ lastByte)
+unfolding own grantOrder
+own-range (Grant bytes) o h e =
+    let a = gave (layout4 bytes) _ o e in
+    let r = layout4-read bytes (a .item) (a .first) in
+    let n : length (bytesFrom 8 bytes 0) ≡ 8 = length-bytes 8 bytes 0 (r .eight) in
+    let s : beValue (bytesFrom 8 bytes 0) < 256 ^ length (bytesFrom 8 bytes 0) = be-small (bytesFrom 8 bytes 0) (taken-bytes 8 bytes h) in
+    let s8 : beValue (bytesFrom 8 bytes 0) < 256 ^ 8 = rw n at s in
+    let k : a .item .frame .offset < 2 ^ 64 = omega (arith, r .offset) in
+    let q = range-ends (a .item .frame .offset) (a .item .frame .length) (a .item .frame .last) k (r .range) in
+    let f : grantOrder bytes (a .item) ≡ o = same-answer (a .rest) in
+    let ef : a .item .frame .offset ≡ o .first = ap (λ (x : Order). x .first) f in
+    let el : a .item .frame .last ≡ o .last = ap (λ (x : Order). x .last) f in
+    (omega (arith, q .0), omega (arith, q .1))
+own-range (Return offset len number) o h e = range-order returns offset len number o h e
+own-range (Recall offset len number) o h e = range-order recalls offset len number o h e
+own-range Revoke o h e =
+    let el : lastByte ≡ o .last = ap (λ (x : Order). x .last) (same-answer e) in
+    let ef : 0 ≡ o .first = ap (λ (x : Order). x .first) (same-answer e) in
+    (omega arith, omega arith)

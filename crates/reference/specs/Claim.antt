@@ -1,0 +1,182 @@
+-- Demand 3, stated of any calls on table and body store.
+use Prim.Native.Nat.{ℕ, zero, suc, _≤_, _<_, _^_}
+use mathlib.Core.Path.{_≡_}
+use mathlib.Core.Bool.{Bool, true, false}
+use mathlib.Core.List.{List, [], _∷_, _++_}
+use lib.ListN.{length, replicate, getD}
+use Rattle.base.specs.Answer.{Answer, accepted, refused}
+use Rattle.base.specs.Ranges.{lastByte}
+use Rattle.numbers.specs.Numbers.{AllBytes}
+use Rattle.segments.specs.declared.Right.{Right}
+use Rattle.segments.specs.declared.Right.the-variants.{None, Granted, Recalled}
+use Rattle.segments.specs.declared.Segment.{Segment}
+use Rattle.segments.specs.declared.Table.{Table}
+use Rattle.segments.specs.Segments.{Mode, emptyTable, listIn, rightAt}
+use Rattle.store.specs.Store.{Slot, empty, holds, storeOf, Body}
+use Rattle.reference.specs.Model.{
+  ByteRight,
+  none,
+  granted,
+  recalled,
+  Model,
+  start,
+  Event,
+  Grant,
+  Return,
+  Recall,
+  Revoke,
+  Order,
+  own,
+  covers,
+  afterAt,
+  ifAccepted,
+  answerTo,
+  modelAfter,
+  answers,
+  run,
+  tableOf,
+}
+use Rattle.reference.specs.Sound.{slotsIn}
+
+-- what a call comes to: its answer (0 for accepted), and the table and the store that it leaves
+pub record Left : Type 0 where
+  pub answer : ℕ
+  pub table : Table
+  pub store : List ℕ
+
+-- a call for each event, on a table and a store
+abbrev pub Calls : Type 0
+Calls = Event → Table → List ℕ → Left
+
+-- ---- events as the calls' types have them: a grant's bytes are bytes, an offset is below 2^64 (any length and iomode number will do)
+
+abbrev pub Fits : Event → Type 0
+Fits (Grant bytes) = AllBytes bytes
+Fits (Return offset len number) = offset < 2 ^ 64
+Fits (Recall offset len number) = offset < 2 ^ 64
+Fits Revoke = Unit {0}
+
+unfoldable pub AllFit : List Event → Type 0
+AllFit [] = Unit {0}
+AllFit (e ∷ es) = Fits e × AllFit es
+
+-- ---- the rights, as table and store show them
+
+-- the right under the body in the named slot; none where the slot is empty
+abbrev pub underSlot : (Body → ByteRight) → Slot → ByteRight
+underSlot c empty = none
+underSlot c (holds b) = c b
+
+abbrev pub withBody : List Slot → Right → ByteRight
+withBody ss None = none
+withBody ss (Granted s) = underSlot granted (getD ss (s .0) empty)
+withBody ss (Recalled s) = underSlot recalled (getD ss (s .0) empty)
+
+unfoldable pub rightIn : Table → List ℕ → Mode → ℕ → ByteRight
+rightIn t store m x = withBody (slotsIn t store) (rightAt (listIn t m) x)
+
+-- ---- the rights that the accepted events give
+
+-- the order of an event that was answered with a number: one where it was accepted
+unfoldable pub orderOf : Answer Order → ℕ → List Order
+orderOf (accepted o) answer = ifAccepted answer (o ∷ []) []
+orderOf (refused n) answer = []
+
+-- the orders of the accepted events of a list
+unfoldable pub acceptedOf : List Event → List ℕ → List Order
+acceptedOf [] ns = []
+acceptedOf (e ∷ es) [] = []
+acceptedOf (e ∷ es) (n ∷ ns) = orderOf (own e) n ++ acceptedOf es ns
+
+-- "the right that the accepted events covering that byte and iomode give, taken in order"
+unfoldable pub rightGiven : List Order → Mode → ℕ → ByteRight → ByteRight
+rightGiven [] m x r = r
+rightGiven (o ∷ os) m x r = rightGiven os m x (afterAt o m x r)
+
+-- ---- lists that show the rights
+
+-- "the ordered list of segments", of bytes of the file, "each with its layout body"
+unfoldable pub Ordered : List Slot → ℕ → List Segment → Type 0
+Ordered ss lo [] = Unit {0}
+Ordered ss lo (s ∷ l) =
+    (lo ≤ s .first)
+    × (s .first ≤ s .last)
+    × (s .last ≤ lastByte)
+    × (withBody ss (s .right) ≡ none → ⊥)
+    × Ordered ss (suc (s .last)) l
+
+-- "that shows them"
+pub record Showing (ss : List Slot) (right : ℕ → ByteRight) (l : List Segment) : Type 0 where
+  pub ordered : Ordered ss 0 l
+  pub shows : (x : ℕ) → x ≤ lastByte → withBody ss (rightAt l x) ≡ right x
+
+-- ---- a list of calls, "each handed the table and shelf that the last one left"
+
+module _ (call : Calls) where
+  unfoldable pub answered : List Event → Table → List ℕ → List ℕ
+  answered [] t store = []
+  answered (e ∷ es) t store = call e t store .answer ∷ answered es (call e t store .table) (call e t store .store)
+
+  unfoldable pub tableLeft : List Event → Table → List ℕ → Table
+  tableLeft [] t store = t
+  tableLeft (e ∷ es) t store = tableLeft es (call e t store .table) (call e t store .store)
+
+  unfoldable pub storeLeft : List Event → Table → List ℕ → List ℕ
+  storeLeft [] t store = store
+  storeLeft (e ∷ es) t store = storeLeft es (call e t store .table) (call e t store .store)
+
+-- whether an event covers a byte and iomode
+abbrev pub inReach : Answer Order → Mode → ℕ → Bool
+inReach (accepted o) m x = covers o m x
+inReach (refused n) m x = false
+
+-- "An accepted event changes no right outside its range and iomode; a refused one changes nothing."
+pub record Confined (e : Event) (t : Table) (store : List ℕ) (l : Left) : Type 0 where
+  pub elsewhere : l .answer ≡ 0 → (m : Mode) (x : ℕ) → x ≤ lastByte → inReach (own e) m x ≡ false
+      → rightIn (l .table) (l .store) m x ≡ rightIn t store m x
+  pub unchanged : (l .answer ≡ 0 → ⊥) → (l .table ≡ t) × (l .store ≡ store)
+
+unfoldable pub EachConfined : Calls → List Event → Table → List ℕ → Type 0
+EachConfined call [] t store = Unit {0}
+EachConfined call (e ∷ es) t store =
+    Confined e t store (call e t store)
+    × EachConfined call es (call e t store .table) (call e t store .store)
+
+-- What demand 3 says of one list of events. got: the calls' answers; t, store: what they leave; M: the reference model after the list.
+pub record Agreed (call : Calls) (es : List Event) (got : List ℕ) (t : Table) (store : List ℕ) (M : Model) : Type 0 where
+  -- "Each is accepted, or refused with its number, exactly when the scope paper's ledger does so on the same list."
+  pub same-answers : got ≡ answers lastByte es start
+  -- "every byte of the file has, in each iomode, the right that the accepted events covering that byte and iomode give, taken in order"
+  pub rights : (m : Mode) (x : ℕ) → x ≤ lastByte → rightIn t store m x ≡ rightGiven (acceptedOf es got) m x none
+  -- "and the ledger shows the same"
+  pub same-rights : (m : Mode) (x : ℕ) → x ≤ lastByte → M .right m x ≡ rightGiven (acceptedOf es got) m x none
+  -- "An accepted event changes no right outside its range and iomode; a refused one changes nothing."
+  pub confined : EachConfined call es emptyTable (replicate 32768 0)
+  -- "The table kept is the one worked out afresh from those rights and the ledger's slots."
+  pub same-table : t ≡ tableOf lastByte M
+  -- "In each iomode it is the ordered list of segments that shows them, each with its layout body,"
+  pub shows : (m : Mode) → Showing (slotsIn t store) (M .right m) (listIn t m)
+  -- "and every other such list has more segments."
+  pub fewest : (m : Mode) (l : List Segment) → Showing (slotsIn t store) (M .right m) l
+      → (l ≡ listIn t m → ⊥) → length (listIn t m) < length l
+  -- "The shelf's bytes are the ledger's."
+  pub same-store : store ≡ storeOf (M .slots)
+
+-- "Start from an empty table and a zeroed shelf .. For every list of grants, returns, recalls and revokes, refused ones among them, .. this
+-- holds."
+abbrev pub Demand3 : Calls → Type 0
+Demand3 call = (es : List Event) → AllFit es
+    → Agreed call es
+    (answered call es emptyTable (replicate 32768 0))
+    (tableLeft call es emptyTable (replicate 32768 0))
+    (storeLeft call es emptyTable (replicate 32768 0))
+    (run lastByte es start)
+
+-- ---- one call that follows the model: the model's answer, and the table and the store of the model after the event
+
+unfoldable pub leftBy : Event → Model → Left
+leftBy e M = record {
+  answer = answerTo lastByte (own e) M;
+  table = tableOf lastByte (modelAfter lastByte (own e) M);
+  store = storeOf (modelAfter lastByte (own e) M .slots);
+}

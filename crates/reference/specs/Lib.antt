@@ -1,0 +1,3 @@
+pub mod Model
+pub mod Sound
+pub mod Claim

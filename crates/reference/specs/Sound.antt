@@ -1,0 +1,93 @@
+-- Soundness of a table and a body store, whatever they are: "20: table or shelf is unsound".
+use Prim.Native.Nat.{ℕ, zero, suc, _+_, _*_}
+use mathlib.Core.Bool.{Bool, true, false, not, _&&_}
+use mathlib.Core.List.{List, [], _∷_}
+use lib.ListN.{length, drop}
+use lib.Dec.{leb, ltb, eqb}
+use Rattle.base.specs.Answer.{Answer, accepted, refused, pick}
+use Rattle.xdr.specs.Items.{allZero}
+use Rattle.layout.specs.Layouts.{Layout, layoutBody}
+use Rattle.segments.specs.declared.Right.{Right}
+use Rattle.segments.specs.declared.Right.the-variants.{None, Granted, Recalled}
+use Rattle.segments.specs.declared.Segment.{Segment}
+use Rattle.segments.specs.declared.Segments.{Segments}
+use Rattle.segments.specs.declared.Table.{Table}
+use Rattle.segments.specs.Segments.{isNamed, listOf, sameRight}
+use Rattle.store.specs.Store.{Body, Slot, empty, holds, bodyIn, kindIn, lengthIn, slotAt}
+use Rattle.reference.specs.Model.{inSlots}
+
+-- ---- segments
+
+-- a right that a segment may have: not none, and under one of the eight slots
+abbrev pub hasSlot : Right → Bool
+hasSlot None = false
+hasSlot (Granted s) = ltb (s .0) 8
+hasSlot (Recalled s) = ltb (s .0) 8
+
+-- "Segments stand in rising order .. Neighbours that touch with the same right and body are one segment."
+unfoldable pub apart : Segment → Segment → Bool
+apart a b = ltb (a .last) (b .first) && not (eqb (suc (a .last)) (b .first) && sameRight (a .right) (b .right))
+
+unfoldable pub apartFromNext : Segment → List Segment → Bool
+apartFromNext s [] = true
+apartFromNext s (b ∷ l) = apart s b
+
+unfoldable pub inOrder : List Segment → Bool
+inOrder [] = true
+inOrder (s ∷ l) = leb (s .first) (s .last) && hasSlot (s .right) && apartFromNext s l && inOrder l
+
+abbrev pub isBlank : Segment → Bool
+isBlank s = eqb (s .first) 0 && eqb (s .last) 0 && sameRight None (s .right)
+
+unfoldable pub allBlank : List Segment → Bool
+allBlank [] = true
+allBlank (s ∷ l) = isBlank s && allBlank l
+
+-- "segments as above, at most 32 an iomode, blank places blank"
+unfoldable pub segmentsSound : Segments → Bool
+segmentsSound g = leb (g .count) 32 && inOrder (listOf g) && allBlank (drop (g .count) (g .items))
+
+-- ---- slots
+
+-- a body that the layout body's reader accepts
+abbrev pub isAccepted : {A : Type 0} → Answer A → Bool
+isAccepted (accepted a) = true
+isAccepted (refused n) = false
+
+-- "named slots are laid out as said and hold accepted bodies .. unnamed slots zero"
+unfoldable pub slotSound : Bool → List ℕ → Bool
+slotSound true slot =
+    leb (lengthIn slot) 4090
+    && eqb (kindIn slot) 4
+    && isAccepted (layoutBody (bodyIn slot))
+    && allZero (drop (6 + lengthIn slot) slot)
+slotSound false slot = allZero slot
+
+-- k slots from slot i on
+unfoldable pub slotsSound : Table → List ℕ → ℕ → ℕ → Bool
+slotsSound t store zero i = true
+slotsSound t store (suc k) i = slotSound (isNamed t i) (slotAt store i) && slotsSound t store k (suc i)
+
+-- the k slots from slot i on as table and store have them: a named slot has the body that its bytes say
+unfoldable pub slotsFrom : Table → List ℕ → ℕ → ℕ → List Slot
+slotsFrom t store zero i = []
+slotsFrom t store (suc k) i = pick (isNamed t i) (holds (bodyIn (slotAt store i))) empty ∷ slotsFrom t store k (suc i)
+
+unfoldable pub slotsIn : Table → List ℕ → List Slot
+slotsIn t store = slotsFrom t store 8 0
+
+-- "no two alike"
+unfoldable pub noTwoAlike : List Slot → Bool
+noTwoAlike [] = true
+noTwoAlike (empty ∷ ss) = noTwoAlike ss
+noTwoAlike (holds b ∷ ss) = not (inSlots b ss) && noTwoAlike ss
+
+-- "Sound means: segments as above, at most 32 an iomode, blank places blank; named slots are laid out as said and hold accepted bodies, no two
+-- alike; unnamed slots zero; shelf of the right length."
+unfoldable pub sound : Table → List ℕ → Bool
+sound t store =
+    segmentsSound (t .read)
+    && segmentsSound (t .rw)
+    && slotsSound t store 8 0
+    && noTwoAlike (slotsIn t store)
+    && eqb (length store) 32768
