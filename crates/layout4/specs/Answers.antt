@@ -37,6 +37,10 @@ abbrev pub layout4Answer : Layout4Answer → List ℕ → Answer Whole
 layout4Answer (layout4.Value l summary) starts = accepted (record { frame = l; body = record { summary = summary; starts = starts } })
 layout4Answer (layout4.Refused e) starts = refused (numberOf e)
 
+abbrev pub whyLayout4 : Layout4Answer → Refusal
+whyLayout4 (layout4.Value l summary) = BytesRunOut
+whyLayout4 (layout4.Refused e) = e
+
 -- the starts of an answer: 128 zeros after a refusal
 unfoldable pub startsIn : Answer Whole → List ℕ
 startsIn (accepted w) = w .body .starts

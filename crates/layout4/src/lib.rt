@@ -6,3 +6,4 @@ pub use whole::Layout4;
 pub use whole::Layout4Answer;
 pub use whole::Layout4Read;
 pub use whole::read_layout4;
+pub use whole::why_layout4;

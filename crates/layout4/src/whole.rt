@@ -15,7 +15,7 @@ ghost use lib.Dec.{leb};
 ghost use lib.ListN.{length, replicate};
 ghost use Rattle.xdr.specs.Items.{padding};
 ghost use Rattle.layout4.specs.Layout4s.{layout4};
-ghost use Rattle.layout4.specs.Answers.{layout4Answer, startsIn};
+ghost use Rattle.layout4.specs.Answers.{layout4Answer, startsIn, whyLayout4};
 
 // Offset and length as on the wire, the last byte, and where the body stands.
 pub struct Layout4 {
@@ -98,5 +98,14 @@ pub fn read_layout4(s: &[u8]) -> Layout4Read
             summary,
         ),
         starts,
+    }
+}
+
+pub fn why_layout4(r: Layout4Answer) -> Refusal
+    ensures { λ e. ⌜ e ≡ whyLayout4 r ⌝ }
+{
+    match r {
+        Layout4Answer::Refused(e) => e,
+        Layout4Answer::Value(_, _) => Refusal::BytesRunOut,
     }
 }

@@ -1,0 +1,31 @@
+-- What an outcome says.
+use Prim.Native.Nat.{ℕ}
+use mathlib.Core.List.{List}
+use Rattle.base.specs.Refusals.{numberOf}
+use Rattle.base.specs.Answer.{Answer, accepted, refused}
+use Rattle.base.specs.declared.refusal.Refusal.{Refusal}
+use Rattle.base.specs.declared.refusal.Refusal.the-variants.{RangeInvalid}
+use Rattle.reference.specs.Model.{Deed, Order}
+use Rattle.reference.specs.Claim.{Left}
+use Rattle.events.specs.declared.outcome.Outcome.{Outcome}
+use Rattle.events.specs.declared.outcome.Verdict.{Verdict}
+use Rattle.events.specs.declared.outcome.Verdict.the-variants.{Accepted, Refused}
+use Rattle.events.specs.declared.span.ReadSpan.{ReadSpan}
+use Rattle.events.specs.declared.span.ReadSpan.the-variants as span
+
+abbrev pub numberOfVerdict : Verdict → ℕ
+numberOfVerdict Accepted = 0
+numberOfVerdict (Refused e) = numberOf e
+
+-- an outcome and the store after it
+abbrev pub leftOf : Outcome → List ℕ → Left
+leftOf o store = record { answer = numberOfVerdict (o .verdict); table = o .table; store = store }
+
+-- the order of a return or a recall
+abbrev pub orderOfSpan : Deed → ReadSpan → Answer Order
+orderOfSpan d (span.Value s) = accepted (record { deed = d; iomode = s .iomode; first = s .first; last = s .last })
+orderOfSpan d (span.Refused e) = refused (numberOf e)
+
+abbrev pub whySpan : ReadSpan → Refusal
+whySpan (span.Value s) = RangeInvalid
+whySpan (span.Refused e) = e

@@ -1,0 +1,64 @@
+-- A store whose unnamed slots are cleared one after the other is that of the slots with those emptied.
+use Prim.Native.Nat.{ℕ, zero, suc, _+_, _<_}
+use mathlib.Core.Path.{_≡_, refl, sym, ap, subst, _∙_}
+use mathlib.Core.Bool.{Bool, true, false, not, _&&_}
+use mathlib.Core.List.{List, [], _∷_, _++_, append-assoc}
+use native.Mathlib.Omega.{arith}
+use lib.ListN.{length, set, length-append}
+use Rattle.base.specs.Answer.{pick}
+use Rattle.segments.specs.declared.Table.{Table}
+use Rattle.segments.specs.Segments.{isNamed}
+use Rattle.store.specs.Store.{Slot, empty, holds, slotSet, storeOf}
+use Rattle.store.proofs.SlotLaws.{length-empty}
+use Rattle.store.proofs.StoreLaws.{AllWhole, set-slot}
+use Rattle.slots.specs.Slots.{clearedFrom}
+
+-- the slots from slot i on, without those that only the table before names
+unfoldable pub clearedSlots : Table → Table → ℕ → List Slot → List Slot
+clearedSlots t u i [] = []
+clearedSlots t u i (p ∷ ps) = pick (isNamed t i && not (isNamed u i)) empty p ∷ clearedSlots t u (suc i) ps
+
+set-at : (pre ps : List Slot) (p q : Slot) → set (pre ++ (p ∷ ps)) (length pre) q ≡ pre ++ (q ∷ ps)
+set-at [] ps p q = refl
+set-at (s ∷ pre) ps p q = ap {B = List Slot} (λ l. s ∷ l) (set-at pre ps p q)
+
+one-more : (pre ps : List Slot) (q : Slot) → pre ++ (q ∷ ps) ≡ (pre ++ (q ∷ [])) ++ ps
+one-more [] ps q = refl
+one-more (s ∷ pre) ps q = ap {B = List Slot} (λ l. s ∷ l) (one-more pre ps q)
+
+long : (pre : List Slot) (q : Slot) → length (pre ++ (q ∷ [])) ≡ suc (length pre)
+long [] q = refl
+long (s ∷ pre) q = ap suc (long pre q)
+
+emptied : (pre ps : List Slot) (p : Slot) → AllWhole (pre ++ (p ∷ ps)) → AllWhole (pre ++ (empty ∷ ps))
+emptied [] ps p w zero = length-empty
+emptied [] ps p w (suc i) = w (suc i)
+emptied (s ∷ pre) ps p w zero = w zero
+emptied (s ∷ pre) ps p w (suc i) = emptied pre ps p (λ j. w (suc j)) i
+
+module _ (t u : Table) where
+  after-one : (c : Bool) (pre ps : List Slot) (p : Slot) → AllWhole (pre ++ (p ∷ ps))
+      → pick c (slotSet (storeOf (pre ++ (p ∷ ps))) (length pre) empty) (storeOf (pre ++ (p ∷ ps))) ≡ storeOf (pre ++ (pick c empty p ∷ ps))
+  unfolding pick
+  after-one true pre ps p w =
+      let l : length (pre ++ (p ∷ ps)) ≡ length pre + length (p ∷ ps) = length-append pre (p ∷ ps) in
+      set-slot (pre ++ (p ∷ ps)) (length pre) empty w length-empty (omega arith) ∙ ap storeOf (set-at pre ps p empty)
+  after-one false pre ps p w = refl
+
+  still-whole : (c : Bool) (pre ps : List Slot) (p : Slot) → AllWhole (pre ++ (p ∷ ps)) → AllWhole (pre ++ (pick c empty p ∷ ps))
+  unfolding pick
+  still-whole true pre ps p w = emptied pre ps p w
+  still-whole false pre ps p w = w
+
+  pub cleared-store : (pre ps : List Slot) → AllWhole (pre ++ ps)
+      → clearedFrom t u (length ps) (length pre) (storeOf (pre ++ ps)) ≡ storeOf (pre ++ clearedSlots t u (length pre) ps)
+  unfolding clearedFrom clearedSlots
+  cleared-store pre [] w = refl
+  cleared-store pre (p ∷ ps) w =
+      let c : Bool = isNamed t (length pre) && not (isNamed u (length pre)) in
+      let q : Slot = pick c empty p in
+      let rest : List Slot = clearedSlots t u (suc (length pre)) ps in
+      ap (clearedFrom t u (length ps) (suc (length pre))) (after-one c pre ps p w ∙ ap storeOf (one-more pre ps q))
+      ∙ (ap (λ (n : ℕ). clearedFrom t u (length ps) n (storeOf ((pre ++ (q ∷ [])) ++ ps))) (sym (long pre q))
+      ∙ (cleared-store (pre ++ (q ∷ [])) ps (subst AllWhole (one-more pre ps q) (still-whole c pre ps p w))
+      ∙ ap storeOf (ap (λ (n : ℕ). (pre ++ (q ∷ [])) ++ clearedSlots t u n ps) (long pre q) ∙ sym (one-more pre rest q))))

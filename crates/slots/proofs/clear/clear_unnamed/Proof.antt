@@ -1,0 +1,52 @@
+-- `slots::clear::clear_unnamed` meets its contract: the slots still to be looked at finish the work.
+use Prim.Native.Nat.{ℕ, _-_, _≤_, _+_}
+use Rattle.slots.proofs.SearchLaws.{cleared-all, cleared-next}
+use Rattle.slots.specs.Slots.{clearedFrom}
+use borrow.Author.Needs.{needs}
+use denote.Ref.{now}
+use lib.ListN.{length}
+use mathlib.Core.Path.{_≡_, refl, sym, ap, _∙_}
+use native.Mathlib.Omega.{arith}
+use Rattle.slots.proofs.clear.clear_unnamed.Statement.{statement}
+use Rattle.slots.proofs.clear.clear_unnamed.Tie as tie
+
+abbrev Inv-loop : tie.InvT-loop
+Inv-loop before after store₀ i₀ store i = (i ≤ 8) × (length store ≡ length store₀) × (clearedFrom before after 8 0 store₀ ≡ clearedFrom before after (8 - i) i store)
+
+abbrev μ-loop : tie.MeasureT-loop
+μ-loop before after store₀ i₀ store i = 8 - i
+
+loop-holds : tie.Need-loop-holds Inv-loop μ-loop
+loop-holds c = (omega arith, refl, refl)
+
+clear-if-unnamed-requires : tie.Need-clear-if-unnamed-requires Inv-loop μ-loop
+clear-if-unnamed-requires c κs = search needs
+
+add-i : tie.Need-add-i Inv-loop μ-loop
+add-i c = omega arith
+
+loop-less : tie.Need-loop-less Inv-loop μ-loop
+loop-less c = omega arith
+
+loop-again : tie.Need-loop-again Inv-loop μ-loop
+loop-again c = (omega arith, search needs, c .before .before .before .before .before .loop .inv .2 ∙ (cleared-next _ _ _ _ (omega arith) ∙ ap (clearedFrom _ _ _ _) (sym (c .before .before .clear-if-unnamed .ensures))))
+
+same-length : tie.Need-same-length Inv-loop μ-loop
+same-length c = search needs
+
+returns : tie.Need-returns Inv-loop μ-loop
+returns c = sym (c .before .loop .inv .2 ∙ cleared-all _ _ _ _ (omega arith))
+
+pub clear-unnamed-spec : {M : Type 1} → statement M
+clear-unnamed-spec =
+    tie.close
+    (tie.spec
+    Inv-loop
+    μ-loop
+    loop-holds
+    clear-if-unnamed-requires
+    add-i
+    loop-less
+    loop-again
+    same-length
+    returns)

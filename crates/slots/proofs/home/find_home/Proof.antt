@@ -1,0 +1,54 @@
+-- `slots::home::find_home` meets its contract: no slot before the one looked at holds the body.
+use Prim.Native.Nat.{ℕ, _-_, _≤_}
+use Rattle.slots.proofs.SearchLaws.{SoughtTo, sought-here, sought-next, sought-none, sought-start}
+use borrow.Author.Needs.{needs}
+use denote.Ref.{now}
+use mathlib.Core.Path.{sym, _∙_}
+use native.Mathlib.Omega.{arith}
+use Rattle.slots.proofs.home.find_home.Statement.{statement}
+use Rattle.slots.proofs.home.find_home.Tie as tie
+
+abbrev Inv-loop : tie.InvT-loop
+Inv-loop t store body i₀ i = (i ≤ 8) × SoughtTo body t store i
+
+abbrev μ-loop : tie.MeasureT-loop
+μ-loop t store body i₀ i = 8 - i
+
+loop-holds : tie.Need-loop-holds Inv-loop μ-loop
+loop-holds c = (omega arith, sought-start _ _ _)
+
+holds-requires : tie.Need-holds-requires Inv-loop μ-loop
+holds-requires c κs = search needs
+
+returns : tie.Need-returns Inv-loop μ-loop
+returns c = sought-here _ _ _ _ (c .before .before .before .loop .inv .1) (omega arith) (sym (c .before .holds .ensures) ∙ c .if1 .taken)
+
+add-i : tie.Need-add-i Inv-loop μ-loop
+add-i c = omega arith
+
+loop-less : tie.Need-loop-less Inv-loop μ-loop
+loop-less c = omega arith
+
+loop-again : tie.Need-loop-again Inv-loop μ-loop
+loop-again c = (omega arith, sought-next _ _ _ _ (c .before .before .before .loop .inv .1) (omega arith) (sym (c .before .holds .ensures) ∙ c .if1 .left))
+
+unnamed-requires : tie.Need-unnamed-requires Inv-loop μ-loop
+unnamed-requires c κs = search needs
+
+returns-2 : tie.Need-returns-2 Inv-loop μ-loop
+returns-2 c = c .unnamed .ensures _ ∙ sought-none _ _ _ _ (c .before .before .loop .inv .1) (omega arith)
+
+pub find-home-spec : {M : Type 1} → statement M
+find-home-spec =
+    tie.close
+    (tie.spec
+    Inv-loop
+    μ-loop
+    loop-holds
+    holds-requires
+    returns
+    add-i
+    loop-less
+    loop-again
+    unnamed-requires
+    returns-2)

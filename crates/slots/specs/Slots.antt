@@ -1,0 +1,29 @@
+-- Where a granted body goes, and the slots that no segment names any more.
+use Prim.Native.Nat.{ℕ, zero, suc}
+use mathlib.Core.Bool.{Bool, true, false, not, _&&_}
+use mathlib.Core.List.{List, [], _∷_}
+use Rattle.base.specs.Answer.{pick}
+use Rattle.segments.specs.declared.Table.{Table}
+use Rattle.segments.specs.Segments.{isNamed}
+use Rattle.store.specs.Store.{Body, Slot, empty, holds, slotSet}
+use Rattle.reference.specs.Model.{inSlots, noneEmpty, slotOf}
+use Rattle.slots.specs.declared.home.Home.{Home}
+use Rattle.slots.specs.declared.home.Home.the-variants.{Old, New, Nowhere}
+
+unfoldable pub lowestEmpty : List Slot → ℕ
+lowestEmpty [] = 0
+lowestEmpty (empty ∷ ss) = 0
+lowestEmpty (holds b ∷ ss) = suc (lowestEmpty ss)
+
+unfoldable pub emptyHome : List Slot → Home
+emptyHome ss = pick (noneEmpty ss) Nowhere (New (record { 0 = lowestEmpty ss }))
+
+-- "A grant whose body is on the shelf uses that slot; otherwise the lowest unnamed one."
+unfoldable pub homeOf : Body → List Slot → Home
+homeOf b ss = pick (inSlots b ss) (Old (record { 0 = slotOf b ss })) (emptyHome ss)
+
+-- "A slot that no segment names is all zeros": of the k slots from slot i on, those that only the table before the event names
+unfoldable pub clearedFrom : Table → Table → ℕ → ℕ → List ℕ → List ℕ
+clearedFrom t u zero i store = store
+clearedFrom t u (suc k) i store =
+    clearedFrom t u k (suc i) (pick (isNamed t i && not (isNamed u i)) (slotSet store i empty) store)

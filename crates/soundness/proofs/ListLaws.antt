@@ -1,0 +1,63 @@
+-- Laws of the soundness of segments: the segment in a place with its neighbour, and the blank places.
+use Prim.Native.Nat.{ℕ, zero, suc, _+_, _-_, _≤_, _<_, min}
+use mathlib.Core.Path.{_≡_, refl, sym, ap, _∙_}
+use mathlib.Core.Bool.{Bool, true, false, not, _&&_}
+use mathlib.Core.List.{List, [], _∷_}
+use native.Mathlib.Numerals.{add-one}
+use native.Mathlib.Omega.{arith}
+use borrow.Author.Tests.{eq-eqb, le-leb, le-ltb, lt-leb, lt-ltb, ne-eqb}
+use lib.Dec.{eqb, leb, ltb}
+use lib.ListN.{length, drop, getD, drop-of-length-le}
+use lib.Seq.{drop-cons}
+use Rattle.segments.specs.declared.Segment.{Segment}
+use Rattle.segments.specs.declared.Segments.{Segments}
+use Rattle.segments.specs.Segments.{listOf, sameRight}
+use Rattle.lookup.proofs.LookupLaws.{length-used, next-segment}
+use Rattle.reference.specs.Sound.{allBlank, apart, apartFromNext, hasSlot, inOrder, isBlank}
+
+-- ---- two neighbours
+
+pub overlap : (a b : Segment) → b .first ≤ a .last → apart a b ≡ false
+unfolding apart
+overlap a b h = rw (le-ltb _ _ h)
+
+pub gap : (a b : Segment) → a .last < b .first → (b .first - a .last ≡ 1 → ⊥) → apart a b ≡ true
+unfolding apart
+gap a b h n =
+    let m : suc (a .last) ≡ b .first → ⊥ = λ e. n (omega arith) in
+    rw (lt-ltb _ _ h, ne-eqb _ _ m)
+
+pub touch : (a b : Segment) → a .last < b .first → b .first - a .last ≡ 1 → apart a b ≡ not (sameRight (a .right) (b .right))
+unfolding apart
+touch a b h e =
+    let m : suc (a .last) ≡ b .first = omega arith in
+    rw (lt-ltb _ _ h, eq-eqb _ _ m)
+
+-- ---- the places of a list
+
+pub order-next : (g : Segments) (k : ℕ) (d : Segment) → k < length (listOf g)
+    → inOrder (drop k (listOf g))
+    ≡ (leb (getD (g .items) k d .first) (getD (g .items) k d .last) && hasSlot (getD (g .items) k d .right)
+    && apartFromNext (getD (g .items) k d) (drop (k + 1) (listOf g)) && inOrder (drop (k + 1) (listOf g)))
+unfolding inOrder
+order-next g k d h = ap inOrder (next-segment g k d h)
+
+pub order-none : (g : Segments) (k : ℕ) → length (listOf g) ≤ k → inOrder (drop k (listOf g)) ≡ true
+unfolding inOrder
+order-none g k h = ap inOrder (drop-of-length-le (listOf g) h)
+
+pub apart-next : (s : Segment) (g : Segments) (k : ℕ) (d : Segment) → k < length (listOf g) → apartFromNext s (drop k (listOf g)) ≡ apart s (getD (g .items) k d)
+unfolding apartFromNext
+apart-next s g k d h = ap (apartFromNext s) (next-segment g k d h)
+
+pub apart-none : (s : Segment) (g : Segments) (k : ℕ) → length (listOf g) ≤ k → apartFromNext s (drop k (listOf g)) ≡ true
+unfolding apartFromNext
+apart-none s g k h = ap (apartFromNext s) (drop-of-length-le (listOf g) h)
+
+pub blank-next : (l : List Segment) (k : ℕ) (d : Segment) → k < length l → allBlank (drop k l) ≡ (isBlank (getD l k d) && allBlank (drop (k + 1) l))
+unfolding allBlank
+blank-next l k d h = rw (add-one k, drop-cons l k d h)
+
+pub blank-none : (l : List Segment) (k : ℕ) → length l ≤ k → allBlank (drop k l) ≡ true
+unfolding allBlank
+blank-none l k h = ap allBlank (drop-of-length-le l h)

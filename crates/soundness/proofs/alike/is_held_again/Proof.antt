@@ -1,0 +1,39 @@
+-- `soundness::alike::is_held_again` meets its contract: the slot is not named, or the later slots decide.
+use borrow.Author.Needs.{needs}
+use borrow.Author.Tests.{not-false, not-true}
+use mathlib.Core.Path.{sym, _∙_}
+use Rattle.soundness.proofs.alike.is_held_again.Statement.{statement}
+use Rattle.soundness.proofs.alike.is_held_again.Tie as tie
+
+names-requires : tie.Need-names-requires
+names-requires c κs = search needs
+
+returns : tie.Need-returns
+returns c = rw (sym (c .before .names .ensures) ∙ not-true _ (c .if1 .taken))
+
+slot-bytes-requires : tie.Need-slot-bytes-requires
+slot-bytes-requires c κs = search needs
+
+slot-body-requires : tie.Need-slot-body-requires
+slot-body-requires c κs = search needs
+
+add-is-held-from : tie.Need-add-is-held-from
+add-is-held-from c = search needs
+
+is-held-from-requires : tie.Need-is-held-from-requires
+is-held-from-requires c κs = search needs
+
+returns-2 : tie.Need-returns-2
+returns-2 c = rw (sym (c .before .before .before .before .names .ensures) ∙ not-false _ (c .before .before .before .if1 .left), ← (c .before .before .slot-bytes .ensures), ← (c .before .slot-body .ensures)) (c .is-held-from .ensures)
+
+pub is-held-again-spec : {M : Type 1} → statement M
+is-held-again-spec =
+    tie.close
+    (tie.spec
+    names-requires
+    returns
+    slot-bytes-requires
+    slot-body-requires
+    add-is-held-from
+    is-held-from-requires
+    returns-2)

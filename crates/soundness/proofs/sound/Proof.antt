@@ -1,0 +1,54 @@
+-- `soundness::sound` meets its contract, test by test.
+use Rattle.reference.specs.Sound.{sound}
+use Rattle.soundness.proofs.SlotLaws.{and-false, and-true}
+use borrow.Author.Needs.{needs}
+use borrow.Author.Tests.{eq-eqb, ne-eqb, not-false, not-true}
+use mathlib.Core.Path.{sym, _∙_}
+use Rattle.soundness.proofs.sound.Statement.{statement}
+use Rattle.soundness.proofs.sound.Tie as tie
+
+returns : tie.Need-returns
+unfolding sound
+returns c = rw (ne-eqb _ _ (c .if1 .taken), and-false)
+
+segments-sound-requires : tie.Need-segments-sound-requires
+segments-sound-requires c κs = search needs
+
+returns-2 : tie.Need-returns-2
+unfolding sound
+returns-2 c = rw (sym (c .before .segments-sound .ensures) ∙ not-true _ (c .if2 .taken))
+
+segments-sound-requires-2 : tie.Need-segments-sound-requires-2
+segments-sound-requires-2 c κs = search needs
+
+returns-3 : tie.Need-returns-3
+unfolding sound
+returns-3 c = rw (sym (c .before .before .before .before .segments-sound .ensures) ∙ not-false _ (c .before .before .before .if2 .left), sym (c .before .segments-sound2 .ensures) ∙ not-true _ (c .if3 .taken))
+
+slots-sound-requires : tie.Need-slots-sound-requires
+slots-sound-requires c κs = search needs
+
+returns-4 : tie.Need-returns-4
+unfolding sound
+returns-4 c = rw (sym (c .before .before .before .before .before .before .segments-sound .ensures) ∙ not-false _ (c .before .before .before .before .before .if2 .left), sym (c .before .before .before .segments-sound2 .ensures) ∙ not-false _ (c .before .before .if3 .left), sym (c .before .slots-sound .ensures) ∙ not-true _ (c .if4 .taken))
+
+no-two-alike-requires : tie.Need-no-two-alike-requires
+no-two-alike-requires c κs = search needs
+
+returns-5 : tie.Need-returns-5
+unfolding sound
+returns-5 c = rw (sym (c .before .before .before .before .before .before .before .segments-sound .ensures) ∙ not-false _ (c .before .before .before .before .before .before .if2 .left), sym (c .before .before .before .before .segments-sound2 .ensures) ∙ not-false _ (c .before .before .before .if3 .left), sym (c .before .before .slots-sound .ensures) ∙ not-false _ (c .before .if4 .left), eq-eqb _ _ (c .before .before .before .before .before .before .before .before .before .if1 .left), and-true) (c .no-two-alike .ensures)
+
+pub sound-spec : {M : Type 1} → statement M
+sound-spec =
+    tie.close
+    (tie.spec
+    returns
+    segments-sound-requires
+    returns-2
+    segments-sound-requires-2
+    returns-3
+    slots-sound-requires
+    returns-4
+    no-two-alike-requires
+    returns-5)
