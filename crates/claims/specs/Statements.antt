@@ -1,4 +1,4 @@
--- What the claims say of bytes and of a place in a layout body.
+-- What the claims say of a place in a layout body.
 use Prim.Native.Nat.{ℕ, _+_, _<_}
 use mathlib.Core.Path.{_≡_}
 use mathlib.Core.List.{List}
@@ -7,10 +7,6 @@ use Rattle.numbers.specs.Numbers.{beValue, bytesFrom}
 use Rattle.xdr.specs.Res.{ok}
 use Rattle.server.specs.Servers.{serverAt}
 use Rattle.server.specs.declared.item.Server.{Server}
-
--- each element is a byte
-abbrev pub AllBytes : List ℕ → Type 0
-AllBytes bs = (i : ℕ) → getD bs i 0 < 256
 
 -- a data server is read at this place, and its fields stand where RFC 8435 has them
 pub record ServerStands (s : List ℕ) (at : ℕ) : Type 0 where

@@ -6,7 +6,7 @@ ghost use mathlib.Core.Logic.{_⊎_};
 ghost use mathlib.Core.List.{List, [], map};
 ghost use lib.ListN.{getD, length, replicate, take};
 ghost use Rattle.base.specs.Answer.{accepted, refused};
-ghost use Rattle.numbers.specs.Numbers.{beBytes, beValue};
+ghost use Rattle.numbers.specs.Numbers.{AllBytes, beBytes, beValue};
 ghost use Rattle.server.specs.declared.item.Server.{Server};
 ghost use Rattle.layout.specs.Layouts.{Layout, layoutBody, startsOf};
 ghost use Rattle.device.specs.Bodies.{deviceBody};
@@ -16,7 +16,11 @@ ghost use Rattle.report.specs.Answers.{headsOf};
 ghost use Rattle.report.specs.declared.ReportHead.{ReportHead};
 ghost use Rattle.report_write.specs.Places.{Each, HeadFits, RecordFits, placed, recordsIn};
 ghost use Rattle.report_write.specs.Writing.{ErrorRecord, reportsWritten};
-ghost use Rattle.claims.specs.Statements.{AllBytes, ServerStands};
+ghost use Rattle.base.specs.Ranges.{toTheEnd};
+ghost use Rattle.reference.specs.Claim.{AllFit, Demand3};
+ghost use Rattle.reference.specs.Model.{Event, Recall, Return, Revoke};
+ghost use Rattle.events.specs.Events.{answerAfter, called};
+ghost use Rattle.claims.specs.Statements.{ServerStands};
 
 // A number that was written in k bytes is read back, for every width k.
 pub fn numbers_written_are_read()
@@ -71,4 +75,18 @@ pub fn reports_read_are_written()
 pub fn no_report_is_eight_zeros()
     ensures { λ r. ⌜ ((heads : List ReportHead) (room : ℕ) → 8 ≤ room → reportsWritten 0 heads [] room ≡ accepted (replicate 8 0))
         × (reportBody (replicate 8 0) ≡ accepted []) ⌝ }
+{}
+
+// Demand 3, of the calls that grant, layout_return, recall and revoke are proved to be: after every list of events from the empty table and the
+// zeroed store their answers, table and store are the reference model's. Demand3 (reference/specs/Claim.antt) has its parts, one a sentence.
+pub fn demand_3()
+    ensures { λ r. ⌜ Demand3 called ⌝ }
+{}
+
+// A return or a recall of the whole file, and a revoke, never meet 23, after whatever events.
+pub fn whole_file_events_always_fit()
+    ensures { λ r. ⌜ ((es : List Event) → AllFit es → (number : ℕ)
+        → (answerAfter es (Return 0 toTheEnd number) ≡ 23 → ⊥)
+        × (answerAfter es (Recall 0 toTheEnd number) ≡ 23 → ⊥)
+        × (answerAfter es Revoke ≡ 23 → ⊥)) ⌝ }
 {}
