@@ -9,6 +9,7 @@ pub use iomode::grant_iomode;
 pub use iomode::iomode_number;
 pub use iomode::iomode_of;
 pub use iomode::why_iomode;
+pub use range::LAST_BYTE;
 pub use range::Last;
 pub use range::range_last;
 pub use range::request_last;

@@ -10,7 +10,7 @@ pub enum Last {
 }
 
 // The last byte that a file offset can name.
-const LAST_BYTE: u64 = 18446744073709551615;
+pub const LAST_BYTE: u64 = 18446744073709551615;
 
 // What offset and length may come to together.
 const LARGEST_SUM: u64 = 18446744073709551615;
@@ -18,25 +18,25 @@ const LARGEST_SUM: u64 = 18446744073709551615;
 // The length that means "through the last byte".
 const TO_THE_END: u64 = 18446744073709551615;
 
-pub fn range_last(offset: u64, length: u64) -> Last
-    ensures { λ r. ⌜ answerOfLast r ≡ rangeLast offset length ⌝ }
+pub fn range_last(offset: u64, len: u64) -> Last
+    ensures { λ r. ⌜ answerOfLast r ≡ rangeLast offset len ⌝ }
 {
-    if length == TO_THE_END {
+    if len == TO_THE_END {
         return Last::At(LAST_BYTE);
     }
-    request_last(offset, length)
+    request_last(offset, len)
 }
 
-pub fn request_last(offset: u64, length: u64) -> Last
-    ensures { λ r. ⌜ answerOfLast r ≡ requestLast offset length ⌝ }
+pub fn request_last(offset: u64, len: u64) -> Last
+    ensures { λ r. ⌜ answerOfLast r ≡ requestLast offset len ⌝ }
 {
-    if length == 0 {
+    if len == 0 {
         return Last::Refused(Refusal::RangeInvalid);
     }
-    if LARGEST_SUM - length < offset {
+    if LARGEST_SUM - len < offset {
         return Last::Refused(Refusal::RangeInvalid);
     }
-    Last::At(offset + (length - 1))
+    Last::At(offset + (len - 1))
 }
 
 pub fn why_last(r: Last) -> Refusal

@@ -3,6 +3,7 @@
 ghost use Prim.Native.Nat.{ℕ, _+_, _*_, _^_, _<_, _≤_};
 ghost use mathlib.Core.Path.{_≡_};
 ghost use mathlib.Core.Logic.{_⊎_};
+ghost use mathlib.Core.Bool.{true};
 ghost use mathlib.Core.List.{List, [], map};
 ghost use lib.ListN.{getD, length, replicate, take};
 ghost use Rattle.base.specs.Answer.{accepted, refused};
@@ -17,9 +18,12 @@ ghost use Rattle.report.specs.declared.ReportHead.{ReportHead};
 ghost use Rattle.report_write.specs.Places.{Each, HeadFits, RecordFits, placed, recordsIn};
 ghost use Rattle.report_write.specs.Writing.{ErrorRecord, reportsWritten};
 ghost use Rattle.base.specs.Ranges.{toTheEnd};
-ghost use Rattle.reference.specs.Claim.{AllFit, Demand3};
+ghost use Rattle.segments.specs.declared.Table.{Table};
+ghost use Rattle.segments.specs.Segments.{emptyTable, listOf};
+ghost use Rattle.reference.specs.Claim.{AllFit, Demand3, storeLeft, tableLeft};
+ghost use Rattle.reference.specs.Sound.{sound};
 ghost use Rattle.reference.specs.Model.{Event, Recall, Return, Revoke};
-ghost use Rattle.events.specs.Events.{answerAfter, called};
+ghost use Rattle.events.specs.Events.{InFile, called};
 ghost use Rattle.claims.specs.Statements.{ServerStands};
 
 // A number that was written in k bytes is read back, for every width k.
@@ -83,10 +87,22 @@ pub fn demand_3()
     ensures { λ r. ⌜ Demand3 called ⌝ }
 {}
 
-// A return or a recall of the whole file, and a revoke, never meet 23, after whatever events.
+// A refused event leaves table and store as they were, whatever they are.
+pub fn refused_events_change_nothing()
+    ensures { λ r. ⌜ ((e : Event) (t : Table) (store : List ℕ)
+        → (called e t store .answer ≡ 0 → ⊥) → (called e t store .table ≡ t) × (called e t store .store ≡ store)) ⌝ }
+{}
+
+// Table and store stay sound, so that 20 never comes.
+pub fn events_leave_sound_tables()
+    ensures { λ r. ⌜ ((es : List Event) → AllFit es
+        → sound (tableLeft called es emptyTable (replicate 32768 0)) (storeLeft called es emptyTable (replicate 32768 0)) ≡ true) ⌝ }
+{}
+
+// A return or a recall of the whole file, and a revoke, never meet 23, on whatever table.
 pub fn whole_file_events_always_fit()
-    ensures { λ r. ⌜ ((es : List Event) → AllFit es → (number : ℕ)
-        → (answerAfter es (Return 0 toTheEnd number) ≡ 23 → ⊥)
-        × (answerAfter es (Recall 0 toTheEnd number) ≡ 23 → ⊥)
-        × (answerAfter es Revoke ≡ 23 → ⊥)) ⌝ }
+    ensures { λ r. ⌜ ((t : Table) (store : List ℕ) → InFile (listOf (t .read)) → InFile (listOf (t .rw)) → (number : ℕ)
+        → (called (Return 0 toTheEnd number) t store .answer ≡ 23 → ⊥)
+        × (called (Recall 0 toTheEnd number) t store .answer ≡ 23 → ⊥)
+        × (called Revoke t store .answer ≡ 23 → ⊥)) ⌝ }
 {}

@@ -5,11 +5,11 @@ use Rattle.base.specs.Answer.{Answer, accepted, refused, pick}
 use Rattle.base.specs.Ranges.{lastByte}
 use Rattle.store.specs.Store.{storeOf}
 use Rattle.reference.specs.Model.{Event, Model, Order, answerTo, modelAfter, own, tableOf}
-use Rattle.reference.specs.Claim.{Demand3, Fits, Left, leftBy}
+use Rattle.reference.specs.Claim.{Demand3, Fits, Left}
 use Rattle.reference.proofs.Inv.{GoodOrder, Inv}
 use Rattle.reference.proofs.SoundLaws.{model-sound}
 use Rattle.reference.proofs.OwnLaws.{own-range, own-small}
-use Rattle.reference.proofs.FromStep.{demand-3}
+use Rattle.reference.proofs.FromStep.{demand-3, leftBy}
 use Rattle.events.specs.Events.{called, obeyed}
 use Rattle.events.proofs.StepLaws.{order-met}
 

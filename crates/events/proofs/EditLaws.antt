@@ -18,7 +18,8 @@ use Rattle.table.specs.declared.change.EditedTable.{EditedTable}
 use Rattle.reference.proofs.Decode.{list-of}
 use Rattle.segments.proofs.ScanLaws.{segments-ext}
 use Rattle.table.proofs.EditShows.{edit-scan}
-use Rattle.table.specs.Edits.{bothFit, changedFun, changedRight, edited, editedIn, editedWhere, tableEdited}
+use Rattle.table.specs.Edits.{bothFit, edited, editedIn, editedWhere, tableEdited}
+use Rattle.table.proofs.Changed.{changedFun, changedRight}
 use Rattle.reference.specs.Model.{Model, Order, act, afterAt, covers, segmentsIn, tableOf, tooMany, withSlot}
 
 -- ---- one iomode

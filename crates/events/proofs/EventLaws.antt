@@ -26,7 +26,7 @@ use Rattle.events.specs.declared.outcome.Outcome.{Outcome}
 use Rattle.events.specs.declared.outcome.Verdict.the-variants.{Accepted, Refused}
 use Rattle.events.specs.Answers.{leftOf}
 use Rattle.events.specs.Events as calls
-use Rattle.events.specs.Events.{called, carried, elsewhere, granted, grantedAt, obeyed, refusedWith, settled}
+use Rattle.events.specs.Events.{afterGrant, called, carried, elsewhere, grantedAt, obeyed, refusedWith, settled}
 
 module _ (t : Table) (store : List ℕ) where
   pub refused-left : (o : Outcome) (e : Refusal) → o ≡ record { verdict = Refused e; table = t } → leftOf o store ≡ refusedWith (numberOf e) t store
@@ -48,28 +48,28 @@ module _ (t : Table) (store : List ℕ) where
   -- ---- the tests
 
   pub nothing-held : (i : Iomode) (first last : ℕ) → tableMeets (satisfies Held) i first last t ≡ false
-      → calls.recalled i first last t store ≡ refusedWith 25 t store
-  unfolding calls.recalled pick
+      → calls.afterRecall i first last t store ≡ refusedWith 25 t store
+  unfolding calls.afterRecall pick
   nothing-held i first last e = rw e refl
 
   pub something-held : (i : Iomode) (first last : ℕ) → tableMeets (satisfies Held) i first last t ≡ true
-      → calls.recalled i first last t store ≡ carried change.Recall i first last t store store
-  unfolding calls.recalled pick
+      → calls.afterRecall i first last t store ≡ carried change.Recall i first last t store store
+  unfolding calls.afterRecall pick
   something-held i first last e = rw e refl
 
   module _ (home : Home) (b : Body) (i : Iomode) (first last : ℕ) where
-    pub held-elsewhere : tableMeets (satisfies (elsewhere home)) i first last t ≡ true → granted home b i first last t store ≡ refusedWith 21 t store
-    unfolding granted pick
+    pub held-elsewhere : tableMeets (satisfies (elsewhere home)) i first last t ≡ true → afterGrant home b i first last t store ≡ refusedWith 21 t store
+    unfolding afterGrant pick
     held-elsewhere e = rw e refl
 
     module _ (e : tableMeets (satisfies (elsewhere home)) i first last t ≡ false) where
-      pub is-recalled : tableMeets (satisfies Recalled) i first last t ≡ true → granted home b i first last t store ≡ refusedWith 22 t store
-      unfolding granted pick
+      pub is-recalled : tableMeets (satisfies Recalled) i first last t ≡ true → afterGrant home b i first last t store ≡ refusedWith 22 t store
+      unfolding afterGrant pick
       is-recalled f = rw (e, f) refl
 
       pub may-be-granted : tableMeets (satisfies Recalled) i first last t ≡ false
-          → granted home b i first last t store ≡ grantedAt home b i first last t store
-      unfolding granted pick
+          → afterGrant home b i first last t store ≡ grantedAt home b i first last t store
+      unfolding afterGrant pick
       may-be-granted f = rw (e, f) refl
 
   -- ---- the event
@@ -96,7 +96,7 @@ grant-read bytes w e = rw e refl
 
 -- the body that is handed on is the n bytes at its place
 pub grant-done : (t : Table) (store bytes : List ℕ) (w : Whole) (n : ℕ) → sound t store ≡ true → layout4 bytes ≡ accepted w → n ≡ w .frame .body .len
-    → granted (homeOf (bytesFrom n bytes (w .frame .body .start)) (slotsIn t store)) (bytesFrom n bytes (w .frame .body .start)) (w .frame .iomode) (w .frame .offset) (w .frame .last) t store
+    → afterGrant (homeOf (bytesFrom n bytes (w .frame .body .start)) (slotsIn t store)) (bytesFrom n bytes (w .frame .body .start)) (w .frame .iomode) (w .frame .offset) (w .frame .last) t store
     ≡ called (Grant bytes) t store
 unfolding grantOrder
 grant-done t store bytes w n s e h = rw h (sym (own-accepted t store (Grant bytes) (grantOrder bytes w) s (grant-read bytes w e)))

@@ -4,5 +4,6 @@ pub mod RightLaws
 pub mod StoreLaws
 pub mod StepLaws
 pub mod Demand
+pub mod Unchanged
 pub mod WholeFile
 pub mod EventLaws

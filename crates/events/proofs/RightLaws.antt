@@ -14,7 +14,7 @@ use Rattle.segments.specs.declared.Right.the-variants.{None, Granted, Recalled}
 use Rattle.segments.specs.Segments.{Mode, READ, RW, actsOn, anyBelow, within}
 use Rattle.table.specs.declared.change.Change.{Change}
 use Rattle.table.specs.declared.change.Change.the-variants as change
-use Rattle.table.specs.Edits.{changedRight}
+use Rattle.table.proofs.Changed.{changedRight}
 use Rattle.store.specs.Store.{Body, Slot, empty, holds}
 use Rattle.reference.specs.Model.{
   ByteRight,

@@ -183,7 +183,7 @@ module _ (N : ℕ) (M : Model) (v : Inv N M) (i : Iomode) (lo hi : ℕ) (rising 
       all-false a b c d n e f g h = rw (e, f, g, h)
 
   was-recalled : byDeed recalls (order recalls) (tableOf N M) (storeOf (M .slots)) ≡ ended N (order recalls) M (verdict N (order recalls) M)
-  unfolding verdict order calls.recalled pick
+  unfolding verdict order calls.afterRecall pick
   was-recalled =
       let a = never-met N (order recalls) (stops21 recalls) M (λ r. refl) in
       let b = never-met N (order recalls) (stops22 recalls) M (λ r. refl) in
@@ -254,7 +254,7 @@ module _ (N : ℕ) (M : Model) (v : Inv N M) (i : Iomode) (lo hi : ℕ) (rising 
         go false false e f = filled false e (λ z. f) ∙ fits (rw (e, f))
 
     was-granted : byDeed (grants b) (order (grants b)) (tableOf N M) (storeOf (M .slots)) ≡ ended N (order (grants b)) M (verdict N (order (grants b)) M)
-    unfolding verdict order calls.granted pick
+    unfolding verdict order calls.afterGrant pick
     was-granted =
         rw (slots-back N M v, other-met, recalled-met)
         (go (meets N (order (grants b)) (stops21 (grants b)) M) (meets N (order (grants b)) (stops22 (grants b)) M) placed-at)

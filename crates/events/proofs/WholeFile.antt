@@ -1,132 +1,76 @@
 -- A return or a recall of the whole file, and a revoke, never need more segments than there were: they never meet 23.
-use Prim.Native.Nat.{ℕ, zero, suc, _≤_, _<_}
-use mathlib.Core.Path.{_≡_, refl, sym, ap, _∙_}
-use mathlib.Core.Bool.{Bool, true, false, not, _&&_, _||_, false≢true}
-use mathlib.Core.List.{List, []}
+use Prim.Native.Nat.{ℕ, suc, _≤_, min}
+use mathlib.Core.Path.{_≡_, refl, ap}
+use mathlib.Core.Bool.{Bool, true, false, _&&_}
+use mathlib.Core.List.{List, [], _∷_}
 use native.Mathlib.Omega.{arith}
-use borrow.Author.Tests.{le-ltb}
-use lib.Dec.{eqb, ltb}
-use lib.ListN.{length}
+use borrow.Author.Tests.{le-leb, leb-true}
+use lib.Dec.{eqb, leb}
+use lib.ListN.{length, drop, length-take}
 use Rattle.base.specs.Answer.{Answer, accepted, refused, given, pick}
 use Rattle.base.specs.Iomodes.{iomodeOf}
 use Rattle.base.specs.Ranges.{lastByte, rangeLast, toTheEnd}
 use Rattle.base.specs.declared.iomode.Iomode.{Iomode}
 use Rattle.base.specs.declared.iomode.Iomode.the-variants.{Read, ReadWrite, Any}
+use Rattle.xdr.proofs.Accepted.{both}
 use Rattle.segments.specs.declared.Segment.{Segment}
-use Rattle.segments.specs.Segments.{Mode, READ, RW, actsOn}
+use Rattle.segments.specs.declared.Segments.{Segments}
+use Rattle.segments.specs.declared.Table.{Table}
+use Rattle.segments.specs.Segments.{READ, RW, actsOn, listOf}
 use Rattle.segments.proofs.Canon.{Below}
-use Rattle.segments.proofs.ScanLaws.{segments-below}
+use Rattle.lookup.specs.declared.range.Condition.the-variants.{Held}
+use Rattle.lookup.specs.Lookup.{satisfies, tableMeets}
 use Rattle.table.specs.declared.change.Change.{Change}
 use Rattle.table.specs.declared.change.Change.the-variants as change
-use Rattle.table.specs.Edits.{changedRight, edited}
+use Rattle.table.specs.Edits.{edited, editedIn, editedWhere, tableEdited}
 use Rattle.table.proofs.WholeFile.{clear-whole-needs-no-more, recall-whole-needs-no-more}
-use Rattle.reference.specs.Model.{
-  Deed,
-  grants,
-  returns,
-  recalls,
-  revokes,
-  Event,
-  Return,
-  Recall,
-  Revoke,
-  Model,
-  Order,
-  act,
-  afterAt,
-  answerTo,
-  covers,
-  own,
-  rangeOrder,
-  run,
-  start,
-  meets,
-  refuse,
-  segmentsIn,
-  stops21,
-  stops22,
-  stops24,
-  stops25,
-  tooMany,
-  verdict,
-  withSlot,
-}
-use Rattle.reference.specs.Claim.{AllFit, Fits, Left, leftBy}
-use Rattle.reference.proofs.Inv.{Inv, start-keeps}
-use Rattle.reference.proofs.FromStep.{run-keeps}
-use Rattle.events.specs.Events.{answerAfter, called}
-use Rattle.events.proofs.Demand.{calls-meet-demand-3, step-met}
-use Rattle.events.proofs.EditLaws.{list-edited, list-kept}
-use Rattle.events.proofs.RightLaws.{HomeIs, changeOf, rights-agree}
+use Rattle.reference.specs.Model.{Event, Recall, Return, Revoke, recalls, returns, own, rangeOrder}
+use Rattle.reference.specs.Sound.{allBlank, inOrder, noTwoAlike, segmentsSound, slotsIn, slotsSound, sound}
+use Rattle.events.specs.Events.{InFile, afterRecall, called, carried, obeyed, refusedWith, settled}
 
-module _ (N : ℕ) (M : Model) (v : Inv N M) (i : Iomode) where
-  whole : Deed → Order
-  whole d = record { deed = d; iomode = i; first = 0; last = N }
+-- ---- the edit
 
-  list-below : (m : Mode) → Below (suc N) (segmentsIn N M m)
-  unfolding segmentsIn
-  list-below m = segments-below N (λ x. withSlot (M .slots) (M .right m x))
+in-file-below : (l : List Segment) → InFile l → Below (suc lastByte) l
+unfolding InFile Below
+in-file-below [] h = tt
+in-file-below (s ∷ l) h = (omega (arith, h .0), in-file-below l (h .1))
 
-  -- the list of an iomode after an event that clears or recalls the whole file
-  no-longer : (d : Deed) → ((l : List Segment) → Below (suc N) l → length (edited (changeOf d 0) 0 N l) ≤ length l) → HomeIs d (M .slots) 0
-      → (m : Mode) → length (segmentsIn N (act N (whole d) M) m) ≤ 32
-  unfolding whole
-  no-longer d shrinks home m = go (actsOn i m) refl
-    where
-      agrees : (m : Mode) (x : ℕ) → x ≤ N
-          → withSlot (act N (whole d) M .slots) (afterAt (whole d) m x (M .right m x))
-          ≡ pick (covers (whole d) m x) (changedRight (changeOf d 0) (withSlot (M .slots) (M .right m x))) (withSlot (M .slots) (M .right m x))
-      agrees m x k = rights-agree N M (whole d) 0 home m x k (v .housed m x k)
+-- a change that adds no segment when it is of the whole file
+abbrev Shrinks : Change → Type 0
+Shrinks c = (l : List Segment) → Below (suc lastByte) l → length (edited c 0 lastByte l) ≤ length l
 
-      go : (b : Bool) → actsOn i m ≡ b → length (segmentsIn N (act N (whole d) M) m) ≤ 32
-      go true e =
-          let h : length (edited (changeOf d 0) 0 N (segmentsIn N M m)) ≤ length (segmentsIn N M m) = shrinks (segmentsIn N M m) (list-below m) in
-          let k : edited (changeOf d 0) 0 N (segmentsIn N M m) ≡ segmentsIn N (act N (whole d) M) m =
-          list-edited N M (whole d) (changeOf d 0) (omega arith) (omega arith) (v .few) agrees m e in
-          let f = v .few m in
-          omega (arith, ap length k)
-      go false e =
-          let k : segmentsIn N (act N (whole d) M) m ≡ segmentsIn N M m =
-          list-kept N M (whole d) (changeOf d 0) (omega arith) (omega arith) (v .few) agrees m e in
-          let f = v .few m in
-          omega (arith, ap length k)
+module _ (c : Change) (shrinks : Shrinks c) where
+  edit-fits : (b : Bool) (g : Segments) → leb (g .count) 32 ≡ true → InFile (listOf g) → editedWhere b c 0 lastByte g .fits ≡ true
+  unfolding editedIn pick
+  edit-fits false g few h = refl
+  edit-fits true g few h =
+      let k : length (edited c 0 lastByte (listOf g)) ≤ length (listOf g) = shrinks (listOf g) (in-file-below (listOf g) h) in
+      let n : length (listOf g) ≡ min (g .count) (length (g .items)) = length-take (g .count) (g .items) in
+      let m : g .count ≤ 32 = leb-true (g .count) 32 few in
+      let z : length (edited c 0 lastByte (listOf g)) ≤ 32 = omega arith in
+      rw (le-leb (length (edited c 0 lastByte (listOf g))) 32 z) refl
 
-  fits : (d : Deed) → ((m : Mode) → length (segmentsIn N (act N (whole d) M) m) ≤ 32) → tooMany N (act N (whole d) M) ≡ false
-  unfolding tooMany
-  fits d h = rw (le-ltb 32 _ (h READ), le-ltb 32 _ (h RW))
+  module _ (t : Table) (store : List ℕ) (sounds : sound t store ≡ true) (read : InFile (listOf (t .read))) (rw-list : InFile (listOf (t .rw))) where
+    few : (g : Segments) → segmentsSound g ≡ true → leb (g .count) 32 ≡ true
+    unfolding segmentsSound
+    few g h =
+        both (leb (g .count) 32) (inOrder (listOf g)) (both (leb (g .count) 32 && inOrder (listOf g)) (allBlank (drop (g .count) (g .items))) h .0) .0
 
-  other-answers : (a b c d t : Bool) → t ≡ false → refuse 21 a (refuse 22 b (refuse 25 c (refuse 24 d (refuse 23 t 0)))) ≡ 23 → ⊥
-  other-answers true b c d t f e = omega arith
-  other-answers false true c d t f e = omega arith
-  other-answers false false true d t f e = omega arith
-  other-answers false false false true t f e = omega arith
-  other-answers false false false false true f e = absurd (false≢true (sym f))
-  other-answers false false false false false f e = omega arith
+    table-fits : (i : Iomode) → tableEdited c i 0 lastByte t .fits ≡ true
+    unfolding tableEdited pick sound
+    table-fits i =
+        let lists = segmentsSound (t .read) && segmentsSound (t .rw) in
+        let slots = lists && slotsSound t store 8 0 in
+        let a = both (slots && noTwoAlike (slotsIn t store)) (eqb (length store) 32768) sounds .0 in
+        let b = both lists (slotsSound t store 8 0) (both slots (noTwoAlike (slotsIn t store)) a .0) .0 in
+        let w = both (segmentsSound (t .read)) (segmentsSound (t .rw)) b in
+        rw (edit-fits (actsOn i READ) (t .read) (few (t .read) (w .0)) read, edit-fits (actsOn i RW) (t .rw) (few (t .rw) (w .1)) rw-list) refl
 
-  never-23 : (d : Deed) → ((l : List Segment) → Below (suc N) l → length (edited (changeOf d 0) 0 N l) ≤ length l) → HomeIs d (M .slots) 0
-      → verdict N (whole d) M ≡ 23 → ⊥
-  unfolding verdict whole
-  never-23 d shrinks home e =
-      other-answers (meets N (whole d) (stops21 d) M) (meets N (whole d) (stops22 d) M) (stops25 N d (whole d) M) (stops24 d (M .slots))
-      (tooMany N (act N (whole d) M)) (fits d (no-longer d shrinks home)) e
+    change-accepted : (i : Iomode) → carried c i 0 lastByte t store store .answer ≡ 0
+    unfolding carried settled pick
+    change-accepted i = rw (table-fits i) refl
 
-  returned : verdict N (whole returns) M ≡ 23 → ⊥
-  returned = never-23 returns (λ l b. clear-whole-needs-no-more N l b) tt
-
-  revoked : verdict N (whole revokes) M ≡ 23 → ⊥
-  revoked = never-23 revokes (λ l b. clear-whole-needs-no-more N l b) tt
-
-  was-recalled : verdict N (whole recalls) M ≡ 23 → ⊥
-  was-recalled = never-23 recalls (λ l b. recall-whole-needs-no-more N l b) tt
-
--- ---- the three events, after any list of events
-
-range-answer : (M : Model) (d : Deed) (a : Answer Iomode) → ((i : Iomode) → verdict lastByte (record { deed = d; iomode = i; first = 0; last = lastByte }) M ≡ 23 → ⊥)
-    → (a ≡ refused 23 → ⊥)
-    → answerTo lastByte (given a λ i. accepted (record { deed = d; iomode = i; first = 0; last = lastByte })) M ≡ 23 → ⊥
-unfolding given answerTo
-range-answer M d (accepted i) h k e = h i e
-range-answer M d (refused n) h k e = k (ap refused e)
+-- ---- the three events
 
 iomode-answer : (number : ℕ) → iomodeOf number ≡ refused 23 → ⊥
 unfolding iomodeOf pick
@@ -138,35 +82,42 @@ iomode-answer number = go (eqb number 1) (eqb number 2) (eqb number 3)
     go false false true e = let z : _≡_ {A = ℕ} 0 1 = cc in omega arith
     go false false false e = let z : _≡_ {A = ℕ} 3 23 = cc in omega arith
 
-module _ (M : Model) (v : Inv lastByte M) where
-  pub whole-return : (number : ℕ) → answerTo lastByte (own (Return 0 toTheEnd number)) M ≡ 23 → ⊥
-  unfolding own rangeOrder rangeLast given pick whole
-  whole-return number = range-answer M returns (iomodeOf number) (λ i. returned lastByte M v i) (iomode-answer number)
+module _ (t : Table) (store : List ℕ) (read : InFile (listOf (t .read))) (rw-list : InFile (listOf (t .rw))) where
+  -- an event is judged where table and store are sound
+  judged : (e : Event) → (sound t store ≡ true → obeyed (own e) t store .answer ≡ 23 → ⊥) → called e t store .answer ≡ 23 → ⊥
+  unfolding called pick
+  judged e h = go (sound t store) h
+    where
+      go : (b : Bool) → (b ≡ true → obeyed (own e) t store .answer ≡ 23 → ⊥) → pick b (obeyed (own e) t store) (refusedWith 20 t store) .answer ≡ 23 → ⊥
+      go true h k = h refl k
+      go false h k = omega arith
 
-  pub whole-recall : (number : ℕ) → answerTo lastByte (own (Recall 0 toTheEnd number)) M ≡ 23 → ⊥
-  unfolding own rangeOrder rangeLast given pick whole
-  whole-recall number = range-answer M recalls (iomodeOf number) (λ i. was-recalled lastByte M v i) (iomode-answer number)
+  pub whole-return : (number : ℕ) → called (Return 0 toTheEnd number) t store .answer ≡ 23 → ⊥
+  unfolding own rangeOrder rangeLast given pick obeyed
+  whole-return number = judged (Return 0 toTheEnd number) (λ s. go s (iomodeOf number) (iomode-answer number))
+    where
+      go : sound t store ≡ true → (a : Answer Iomode) → (a ≡ refused 23 → ⊥)
+          → obeyed (given a λ i. accepted (record { deed = returns; iomode = i; first = 0; last = lastByte })) t store .answer ≡ 23 → ⊥
+      go s (accepted i) h e = let z = change-accepted change.Clear (λ l b. clear-whole-needs-no-more lastByte l b) t store s read rw-list i in omega (arith, e, z)
+      go s (refused n) h e = h (ap refused e)
 
-  pub whole-revoke : answerTo lastByte (own Revoke) M ≡ 23 → ⊥
-  unfolding own answerTo whole
-  whole-revoke = revoked lastByte M v Any
+  pub whole-recall : (number : ℕ) → called (Recall 0 toTheEnd number) t store .answer ≡ 23 → ⊥
+  unfolding own rangeOrder rangeLast given pick obeyed afterRecall
+  whole-recall number = judged (Recall 0 toTheEnd number) (λ s. go s (iomodeOf number) (iomode-answer number))
+    where
+      held : sound t store ≡ true → (i : Iomode) (b : Bool)
+          → pick b (carried change.Recall i 0 lastByte t store store) (refusedWith 25 t store) .answer ≡ 23 → ⊥
+      held s i true e = let z = change-accepted change.Recall (λ l b. recall-whole-needs-no-more lastByte l b) t store s read rw-list i in omega (arith, e, z)
+      held s i false e = omega arith
 
-answered-by-model : (es : List Event) (e : Event) → AllFit es → Fits e → answerAfter es e ≡ answerTo lastByte (own e) (run lastByte es start)
-unfolding leftBy
-answered-by-model es e fs f =
-    let d = calls-meet-demand-3 es fs in
-    let v = run-keeps lastByte es start fs (start-keeps lastByte) in
-    ap (λ (l : Left). l .answer) ((λ i. called e (d .same-table i) (d .same-store i)) ∙ step-met e (run lastByte es start) f v)
+      go : sound t store ≡ true → (a : Answer Iomode) → (a ≡ refused 23 → ⊥)
+          → obeyed (given a λ i. accepted (record { deed = recalls; iomode = i; first = 0; last = lastByte })) t store .answer ≡ 23 → ⊥
+      go s (accepted i) h e = held s i (tableMeets (satisfies Held) i 0 lastByte t) e
+      go s (refused n) h e = h (ap refused e)
 
-module _ (es : List Event) (fs : AllFit es) where
-  inv : Inv lastByte (run lastByte es start)
-  inv = run-keeps lastByte es start fs (start-keeps lastByte)
-
-  pub return-after : (number : ℕ) → answerAfter es (Return 0 toTheEnd number) ≡ 23 → ⊥
-  return-after number e = whole-return (run lastByte es start) inv number (sym (answered-by-model es (Return 0 toTheEnd number) fs (omega arith)) ∙ e)
-
-  pub recall-after : (number : ℕ) → answerAfter es (Recall 0 toTheEnd number) ≡ 23 → ⊥
-  recall-after number e = whole-recall (run lastByte es start) inv number (sym (answered-by-model es (Recall 0 toTheEnd number) fs (omega arith)) ∙ e)
-
-  pub revoke-after : answerAfter es Revoke ≡ 23 → ⊥
-  revoke-after e = whole-revoke (run lastByte es start) inv (sym (answered-by-model es Revoke fs tt) ∙ e)
+  pub whole-revoke : called Revoke t store .answer ≡ 23 → ⊥
+  unfolding own obeyed
+  whole-revoke =
+      judged Revoke λ s e.
+      let z = change-accepted change.Clear (λ l b. clear-whole-needs-no-more lastByte l b) t store s read rw-list Any in
+      omega (arith, e, z)

@@ -1,11 +1,11 @@
 -- What the calls make of an event, on a table and a store as they are handed over. Demand 3 holds it against the reference model.
-use Prim.Native.Nat.{ℕ}
-use mathlib.Core.List.{List}
-use lib.ListN.{replicate}
+use Prim.Native.Nat.{ℕ, _≤_}
+use mathlib.Core.List.{List, [], _∷_}
 use Rattle.base.specs.Answer.{Answer, accepted, refused, pick}
+use Rattle.base.specs.Ranges.{lastByte}
 use Rattle.base.specs.declared.iomode.Iomode.{Iomode}
+use Rattle.segments.specs.declared.Segment.{Segment}
 use Rattle.segments.specs.declared.Table.{Table}
-use Rattle.segments.specs.Segments.{emptyTable}
 use Rattle.lookup.specs.declared.range.Condition.{Condition}
 use Rattle.lookup.specs.declared.range.Condition.the-variants.{Held, HeldElsewhere, Recalled}
 use Rattle.lookup.specs.Lookup.{satisfies, tableMeets}
@@ -16,7 +16,7 @@ use Rattle.table.specs.Edits.{tableEdited}
 use Rattle.store.specs.Store.{Body, holds, slotSet}
 use Rattle.reference.specs.Model.{Event, Order, Deed, grants, returns, recalls, revokes, own}
 use Rattle.reference.specs.Sound.{slotsIn, sound}
-use Rattle.reference.specs.Claim.{Left, storeLeft, tableLeft}
+use Rattle.reference.specs.Claim.{Left}
 use Rattle.slots.specs.declared.home.Home.{Home}
 use Rattle.slots.specs.declared.home.Home.the-variants.{Old, New, Nowhere}
 use Rattle.slots.specs.Slots.{clearedFrom, homeOf}
@@ -50,21 +50,21 @@ grantedAt (Old s) b i first last t store = carried (change.Grant s) i first last
 grantedAt (New s) b i first last t store = carried (change.Grant s) i first last t store (slotSet store (s .0) (holds b))
 grantedAt Nowhere b i first last t store = refusedWith 24 t store
 
-unfoldable pub granted : Home → Body → Iomode → ℕ → ℕ → Table → List ℕ → Left
-granted home b i first last t store =
+unfoldable pub afterGrant : Home → Body → Iomode → ℕ → ℕ → Table → List ℕ → Left
+afterGrant home b i first last t store =
     pick (tableMeets (satisfies (elsewhere home)) i first last t) (refusedWith 21 t store)
     (pick (tableMeets (satisfies Recalled) i first last t) (refusedWith 22 t store)
     (grantedAt home b i first last t store))
 
 -- 25, or the change
-unfoldable pub recalled : Iomode → ℕ → ℕ → Table → List ℕ → Left
-recalled i first last t store =
+unfoldable pub afterRecall : Iomode → ℕ → ℕ → Table → List ℕ → Left
+afterRecall i first last t store =
     pick (tableMeets (satisfies Held) i first last t) (carried change.Recall i first last t store store) (refusedWith 25 t store)
 
 abbrev pub byDeed : Deed → Order → Table → List ℕ → Left
-byDeed (grants b) o t store = granted (homeOf b (slotsIn t store)) b (o .iomode) (o .first) (o .last) t store
+byDeed (grants b) o t store = afterGrant (homeOf b (slotsIn t store)) b (o .iomode) (o .first) (o .last) t store
 byDeed returns o t store = carried change.Clear (o .iomode) (o .first) (o .last) t store store
-byDeed recalls o t store = recalled (o .iomode) (o .first) (o .last) t store
+byDeed recalls o t store = afterRecall (o .iomode) (o .first) (o .last) t store
 byDeed revokes o t store = carried change.Clear (o .iomode) (o .first) (o .last) t store store
 
 unfoldable pub obeyed : Answer Order → Table → List ℕ → Left
@@ -75,7 +75,7 @@ obeyed (accepted o) t store = byDeed (o .deed) o t store
 unfoldable pub called : Event → Table → List ℕ → Left
 called e t store = pick (sound t store) (obeyed (own e) t store) (refusedWith 20 t store)
 
--- what the calls answer to an event after a list of events
-abbrev pub answerAfter : List Event → Event → ℕ
-answerAfter es e =
-    called e (tableLeft called es emptyTable (replicate 32768 0)) (storeLeft called es emptyTable (replicate 32768 0)) .answer
+-- segments that end within the file, as those of 64-bit numbers do
+unfoldable pub InFile : List Segment → Type 0
+InFile [] = Unit {0}
+InFile (s ∷ l) = (s .last ≤ lastByte) × InFile l

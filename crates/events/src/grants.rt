@@ -17,7 +17,7 @@ ghost use Rattle.reference.specs.Model.{Grant};
 ghost use Rattle.reference.specs.Sound.{slotsIn};
 ghost use Rattle.slots.specs.Slots.{homeOf};
 ghost use Rattle.events.specs.Answers.{leftOf};
-ghost use Rattle.events.specs.Events.{called, carried, elsewhere, granted, grantedAt};
+ghost use Rattle.events.specs.Events.{afterGrant, called, carried, elsewhere, grantedAt};
 ghost use Rattle.table.specs.declared.change.Change.the-variants as change;
 
 // What stands in the way of a grant: bytes held under another slot; under any, where the body has none.
@@ -81,10 +81,11 @@ fn grant_body(
     last: u64,
 ) -> Outcome
     ensures { λ r. ⌜ leftOf r (now (store .exit))
-        ≡ granted (homeOf (now (body .entry)) (slotsIn t (now (store .entry)))) (now (body .entry)) iomode first last t (now (store .entry)) ⌝ }
+        ≡ afterGrant (homeOf (now (body .entry)) (slotsIn t (now (store .entry)))) (now (body .entry)) iomode first last t (now (store .entry)) ⌝ }
 {
     let h = slots::find_home(t, store, body);
-    if lookup::meets(t, iomode, first, last, other_body(h)) {
+    let other = other_body(h);
+    if lookup::meets(t, iomode, first, last, other) {
         return refused(t, Refusal::HeldUnderOtherBody);
     }
     if lookup::meets(t, iomode, first, last, Condition::Recalled) {

@@ -1,4 +1,4 @@
-// Return, recall and revoke: the events whose numbers are a range, or of the whole file.
+// Return and recall of a range, and the revoke of everything.
 use crate::change::carry_out;
 use crate::outcome::Outcome;
 use crate::outcome::refused;
@@ -13,16 +13,16 @@ use table::Change;
 ghost use mathlib.Core.Path.{_≡_};
 ghost use Rattle.reference.specs.Model.{Recall, Return, Revoke};
 ghost use Rattle.events.specs.Answers.{leftOf};
-ghost use Rattle.events.specs.Events.{called, recalled};
+ghost use Rattle.events.specs.Events.{afterRecall, called};
 
 // "A return makes its range none; a return of bytes not held is accepted."
-pub fn layout_return(t: Table, store: &mut [u8], offset: u64, length: u64, iomode: u32) -> Outcome
-    ensures { λ r. ⌜ leftOf r (now (store .exit)) ≡ called (Return offset length iomode) t (now (store .entry)) ⌝ }
+pub fn layout_return(t: Table, store: &mut [u8], offset: u64, len: u64, iomode: u32) -> Outcome
+    ensures { λ r. ⌜ leftOf r (now (store .exit)) ≡ called (Return offset len iomode) t (now (store .entry)) ⌝ }
 {
     if !soundness::sound(t, store) {
         return refused(t, Refusal::Unsound);
     }
-    let s = read_span(offset, length, iomode);
+    let s = read_span(offset, len, iomode);
     let ReadSpan::Value(span) = s else {
         return refused(t, why_span(s));
     };
@@ -31,7 +31,7 @@ pub fn layout_return(t: Table, store: &mut [u8], offset: u64, length: u64, iomod
 }
 
 fn recall_range(t: Table, store: &mut [u8], iomode: Iomode, first: u64, last: u64) -> Outcome
-    ensures { λ r. ⌜ leftOf r (now (store .exit)) ≡ recalled iomode first last t (now (store .entry)) ⌝ }
+    ensures { λ r. ⌜ leftOf r (now (store .exit)) ≡ afterRecall iomode first last t (now (store .entry)) ⌝ }
 {
     if !lookup::meets(t, iomode, first, last, Condition::Held) {
         return refused(t, Refusal::NothingHeld);
@@ -40,13 +40,13 @@ fn recall_range(t: Table, store: &mut [u8], iomode: Iomode, first: u64, last: u6
 }
 
 // "A recall turns granted into recalled and nothing else."
-pub fn recall(t: Table, store: &mut [u8], offset: u64, length: u64, iomode: u32) -> Outcome
-    ensures { λ r. ⌜ leftOf r (now (store .exit)) ≡ called (Recall offset length iomode) t (now (store .entry)) ⌝ }
+pub fn recall(t: Table, store: &mut [u8], offset: u64, len: u64, iomode: u32) -> Outcome
+    ensures { λ r. ⌜ leftOf r (now (store .exit)) ≡ called (Recall offset len iomode) t (now (store .entry)) ⌝ }
 {
     if !soundness::sound(t, store) {
         return refused(t, Refusal::Unsound);
     }
-    let s = read_span(offset, length, iomode);
+    let s = read_span(offset, len, iomode);
     let ReadSpan::Value(span) = s else {
         return refused(t, why_span(s));
     };
@@ -61,12 +61,5 @@ pub fn revoke(t: Table, store: &mut [u8]) -> Outcome
     if !soundness::sound(t, store) {
         return refused(t, Refusal::Unsound);
     }
-    carry_out(
-        t,
-        store,
-        Change::Clear,
-        Iomode::Any,
-        0,
-        18446744073709551615,
-    )
+    carry_out(t, store, Change::Clear, Iomode::Any, 0, base::LAST_BYTE)
 }

@@ -1,5 +1,4 @@
 // Whether a segment that meets a range has a right of a kind.
-use crate::used;
 use base::Iomode;
 use base::SlotNumber;
 use segments::Right;
@@ -58,7 +57,7 @@ fn hits(s: Segment, first: u64, last: u64, c: Condition) -> bool
 fn any_meets(g: Segments, first: u64, last: u64, c: Condition) -> bool
     ensures { λ r. ⌜ r ≡ anyMeets (satisfies c) first last (listOf g) ⌝ }
 {
-    let n = used(g);
+    let n = segments::used_places(g.count);
     let mut k: usize = 0;
     while k < n {
         let s = g.items[k];

@@ -1,5 +1,4 @@
 // Whether a segment names a slot.
-use crate::used;
 use base::SlotNumber;
 use segments::Right;
 use segments::Segments;
@@ -20,7 +19,7 @@ fn of_slot(r: Right, i: SlotNumber) -> bool
 fn any_names(g: Segments, i: SlotNumber) -> bool
     ensures { λ r. ⌜ r ≡ anyNames (i .0) (listOf g) ⌝ }
 {
-    let n = used(g);
+    let n = segments::used_places(g.count);
     let mut k: usize = 0;
     while k < n {
         let s = g.items[k];

@@ -44,12 +44,12 @@ use Rattle.reference.specs.Claim.{
   Demand3,
   EachConfined,
   Fits,
+  Left,
   Ordered,
   Showing,
   acceptedOf,
   answered,
   inReach,
-  leftBy,
   rightGiven,
   rightIn,
   storeLeft,
@@ -62,6 +62,14 @@ use Rattle.reference.proofs.Inv.{Inv, after-keeps, no-segments, start-k
 use Rattle.reference.proofs.Decode.{list-in, right-back, shown, slots-back, with-back}
 use Rattle.reference.proofs.SoundLaws.{model-canon}
 use Rattle.reference.proofs.OwnLaws.{own-small}
+
+-- the call that follows the model: its answer, and the table and the store of the model after the event
+unfoldable pub leftBy : Event → Model → Left
+leftBy e M = record {
+  answer = answerTo lastByte (own e) M;
+  table = tableOf lastByte (modelAfter lastByte (own e) M);
+  store = storeOf (modelAfter lastByte (own e) M .slots);
+}
 
 -- ---- the start
 
@@ -183,6 +191,7 @@ module _ (M : Model) (v : Inv lastByte M) where
         same-rights = λ m x h. rights-given m x;
         confined = c;
         same-table = p;
+        same-slots = back;
         shows = λ m. rw (back, list m) (model-shows m);
         fewest = λ m l k n.
             rw (list m)

@@ -112,10 +112,6 @@ pub record Inv (N : ℕ) (M : Model) : Type 0 where
   pub few : (m : Mode) → length (segmentsIn N M m) ≤ 32
   pub named : (i : ℕ) (b : Body) → getD (M .slots) i empty ≡ holds b → anyByte N (λ m x. isUnder b (M .right m x)) ≡ true
 
--- a body in a slot is in one of the eight
-pub slot-below : (N : ℕ) (M : Model) (b : Body) → Inv N M → inSlots b (M .slots) ≡ true → slotOf b (M .slots) < 8
-slot-below N M b v h = let k : length (M .slots) ≡ 8 = v .eight in let i = in-small b (M .slots) h in omega arith
-
 -- ---- at the start
 
 all-empty : (n i : ℕ) → getD (replicate n empty) i empty ≡ empty

@@ -137,36 +137,6 @@ lowest-apart b (holds c ∷ ss) h a =
     let t = absent-tail b c ss h in
     rw (lowest-others b c ss (t .0), p .0) (lowest-apart b ss (t .1) (p .1))
 
--- the slot that a new body takes was empty, and the others are as they were
-pub lowest-empty : (b : Body) (ss : List Slot) → inSlots b ss ≡ false → getD ss (slotOf b (inLowest b ss)) empty ≡ empty
-unfolding inLowest slotOf pick
-lowest-empty b [] h = refl
-lowest-empty b (empty ∷ ss) h = rw (same-refl b)
-lowest-empty b (holds c ∷ ss) h =
-    let t = absent-tail b c ss h in
-    rw (same-other b c (λ e. t .0 (sym e))) (lowest-empty b ss (t .1))
-
-pub lowest-set : (b : Body) (ss : List Slot) → inSlots b ss ≡ false → inLowest b ss ≡ set ss (slotOf b (inLowest b ss)) (holds b)
-unfolding inLowest slotOf pick
-lowest-set b [] h = refl
-lowest-set b (empty ∷ ss) h = rw (same-refl b)
-lowest-set b (holds c ∷ ss) h =
-    let t = absent-tail b c ss h in
-    rw (same-other b c (λ e. t .0 (sym e))) (ap {B = List Slot} (λ (l : List Slot). holds c ∷ l) (lowest-set b ss (t .1)))
-
--- and no slot before it was empty
-pub lowest-first : (b : Body) (ss : List Slot) (i : ℕ) → inSlots b ss ≡ false → i < slotOf b (inLowest b ss) → i < length ss → getD ss i empty ≡ empty → ⊥
-unfolding inLowest slotOf pick
-lowest-first b [] i h k n e = omega arith
-lowest-first b (empty ∷ ss) i h k n e =
-    let z : pick (sameBytes b b) 0 (suc (slotOf b ss)) ≡ 0 = rw (same-refl b) in
-    omega arith
-lowest-first b (holds c ∷ ss) zero h k n e = empty-holds c (sym e)
-lowest-first b (holds c ∷ ss) (suc i) h k n e =
-    let t = absent-tail b c ss h in
-    let z : pick (sameBytes b c) 0 (suc (slotOf b (inLowest b ss))) ≡ suc (slotOf b (inLowest b ss)) = rw (same-other b c (λ e. t .0 (sym e))) in
-    lowest-first b ss i (t .1) (omega arith) (omega arith) e
-
 -- ---- the slots after an order's body is placed
 
 pub placed-length : (d : Deed) (ss : List Slot) → length (placed d ss) ≡ length ss

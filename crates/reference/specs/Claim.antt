@@ -30,8 +30,6 @@ use Rattle.reference.specs.Model.{
   covers,
   afterAt,
   ifAccepted,
-  answerTo,
-  modelAfter,
   answers,
   run,
   tableOf,
@@ -154,6 +152,8 @@ pub record Agreed (call : Calls) (es : List Event) (got : List ℕ) (t : Table) 
   pub confined : EachConfined call es emptyTable (replicate 32768 0)
   -- "The table kept is the one worked out afresh from those rights and the ledger's slots."
   pub same-table : t ≡ tableOf lastByte M
+  -- and those are the slots that table and store show
+  pub same-slots : slotsIn t store ≡ M .slots
   -- "In each iomode it is the ordered list of segments that shows them, each with its layout body,"
   pub shows : (m : Mode) → Showing (slotsIn t store) (M .right m) (listIn t m)
   -- "and every other such list has more segments."
@@ -171,12 +171,3 @@ Demand3 call = (es : List Event) → AllFit es
     (tableLeft call es emptyTable (replicate 32768 0))
     (storeLeft call es emptyTable (replicate 32768 0))
     (run lastByte es start)
-
--- ---- one call that follows the model: the model's answer, and the table and the store of the model after the event
-
-unfoldable pub leftBy : Event → Model → Left
-leftBy e M = record {
-  answer = answerTo lastByte (own e) M;
-  table = tableOf lastByte (modelAfter lastByte (own e) M);
-  store = storeOf (modelAfter lastByte (own e) M .slots);
-}

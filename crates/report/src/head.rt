@@ -64,10 +64,10 @@ pub(crate) fn head_of(s: &[u8], item: HeadItem) -> ReportHead
 }
 
 // The pair obeys the range rule, not the rule for I/O requests.
-fn pair_last(offset: u64, length: u64) -> Last
-    ensures { λ r. ⌜ answerOfLast r ≡ rangeLast offset length ⌝ }
+fn pair_last(offset: u64, len: u64) -> Last
+    ensures { λ r. ⌜ answerOfLast r ≡ rangeLast offset len ⌝ }
 {
-    base::range_last(offset, length)
+    base::range_last(offset, len)
 }
 
 pub fn read_head(s: &[u8], c: Cursor) -> ReadHead

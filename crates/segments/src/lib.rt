@@ -1,6 +1,7 @@
 // The segments of a table: which bytes have which right, in each iomode.
 use base::SlotNumber;
 ghost use mathlib.Core.Path.{_≡_};
+ghost use Prim.Native.Nat.{min};
 ghost use Rattle.segments.specs.Segments.{emptyTable, sameRight};
 
 // The number names the slot of the layout body under which the bytes are held.
@@ -68,4 +69,14 @@ pub fn empty_table() -> Table
         read: none,
         rw: none,
     }
+}
+
+// How many of the 32 places a count can mean.
+pub fn used_places(count: usize) -> usize
+    ensures { λ r. ⌜ r ≡ min count 32 ⌝ }
+{
+    if count < 32 {
+        return count;
+    }
+    32
 }

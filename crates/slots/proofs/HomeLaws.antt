@@ -4,7 +4,7 @@ use mathlib.Core.Path.{_≡_, refl, sym, ap, _∙_}
 use mathlib.Core.Bool.{Bool, true, false, _||_, false≢true}
 use mathlib.Core.List.{List, [], _∷_}
 use native.Mathlib.Omega.{arith}
-use lib.ListN.{length, getD, set}
+use lib.ListN.{length, set}
 use Rattle.numbers.proofs.SameLaws.{same-refl}
 use Rattle.base.specs.Answer.{pick}
 use Rattle.numbers.specs.Numbers.{sameBytes}
@@ -17,12 +17,6 @@ unfolding noneEmpty lowestEmpty
 lowest-is-in [] h = absurd (false≢true (sym h))
 lowest-is-in (empty ∷ ss) h = omega arith
 lowest-is-in (holds c ∷ ss) h = let k = lowest-is-in ss h in omega arith
-
-pub lowest-is-empty : (ss : List Slot) → getD ss (lowestEmpty ss) empty ≡ empty
-unfolding lowestEmpty
-lowest-is-empty [] = refl
-lowest-is-empty (empty ∷ ss) = refl
-lowest-is-empty (holds c ∷ ss) = lowest-is-empty ss
 
 pub lowest-set : (b : Body) (ss : List Slot) → set ss (lowestEmpty ss) (holds b) ≡ inLowest b ss
 unfolding lowestEmpty inLowest

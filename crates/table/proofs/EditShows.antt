@@ -16,7 +16,8 @@ use Rattle.segments.proofs.Canon.{Canon, Ord, canon-ord, ord-less, ord-under}
 use Rattle.segments.proofs.ScanLaws.{segments-canon, segments-past, segments-show}
 use Rattle.segments.proofs.Fewest.{unique}
 use Rattle.table.specs.declared.change.Change.{Change}
-use Rattle.table.specs.Edits.{after, before, changedFun, changedRight, edited, middle, parts}
+use Rattle.table.specs.Edits.{after, before, edited, middle, parts}
+use Rattle.table.proofs.Changed.{changedFun, changedRight}
 use Rattle.table.proofs.PushShows.{pushAll-shows}
 use Rattle.table.proofs.PartsShow.{after-shows, at-append-none, at-append-past, before-shows, middle-shows, ord-append}
 
@@ -81,9 +82,6 @@ edited-shows c lo hi l n o =
         past x p
         ∙ (at-append-past (suc hi) (middle c lo hi l) (parts (after hi) l) x (middle-shows c lo hi l n o .1) (omega arith)
         ∙ (after-shows hi 0 l o .1 x (omega arith) ∙ sym (changed-past c lo hi (rightAt l) x (omega arith))))
-
-pub edited-is-canonical : (c : Change) (lo hi : ℕ) (l : List Segment) → lo ≤ hi → Canon 0 None l → Canon 0 None (edited c lo hi l)
-edited-is-canonical c lo hi l n k = edited-shows c lo hi l n (canon-ord 0 None l k) .0
 
 pub edit-scan : (N : ℕ) (f : ℕ → Right) (c : Change) (lo hi : ℕ) → lo ≤ hi → hi ≤ N
     → edited c lo hi (segmentsOf N f) ≡ segmentsOf N (changedFun c lo hi f)

@@ -1,3 +1,4 @@
+pub mod Changed
 pub mod PushLists
 pub mod DraftLaws
 pub mod PartLaws

@@ -13,7 +13,8 @@ use Rattle.segments.specs.Segments.{rightAt}
 use Rattle.segments.proofs.Canon.{Below, Ord, at-in, at-none, at-past, at-under, granted-some, ord-less, recalled-some}
 use Rattle.table.specs.declared.change.Change.{Change}
 use Rattle.table.specs.declared.change.Change.the-variants.{Grant, Clear, Recall}
-use Rattle.table.specs.Edits.{after, before, changedRight, inside, middle, parts, recalledOf}
+use Rattle.table.specs.Edits.{after, before, inside, middle, parts, recalledOf}
+use Rattle.table.proofs.Changed.{changedRight}
 use Rattle.table.proofs.PushShows.{at-tail}
 
 -- ---- lists behind each other

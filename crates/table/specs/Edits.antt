@@ -11,7 +11,7 @@ use Rattle.segments.specs.declared.Right.the-variants.{None, Granted, Recalled}
 use Rattle.segments.specs.declared.Segment.{Segment}
 use Rattle.segments.specs.declared.Segments.{Segments}
 use Rattle.segments.specs.declared.Table.{Table}
-use Rattle.segments.specs.Segments.{READ, RW, actsOn, inPlaces, listOf, sameRight, within}
+use Rattle.segments.specs.Segments.{READ, RW, actsOn, inPlaces, listOf, sameRight}
 use Rattle.table.specs.declared.change.Change.{Change}
 use Rattle.table.specs.declared.change.Change.the-variants.{Grant, Clear, Recall}
 use Rattle.table.specs.declared.change.Edited.{Edited}
@@ -70,16 +70,6 @@ middle Recall lo hi l = parts (inside lo hi) l
 
 unfoldable pub edited : Change → ℕ → ℕ → List Segment → List Segment
 edited c lo hi l = pushAll [] (parts (before lo) l ++ (middle c lo hi l ++ parts (after hi) l))
-
--- the same, byte by byte
-
-abbrev pub changedRight : Change → Right → Right
-changedRight (Grant s) r = Granted s
-changedRight Clear r = None
-changedRight Recall r = recalledOf r
-
-unfoldable pub changedFun : Change → ℕ → ℕ → (ℕ → Right) → ℕ → Right
-changedFun c lo hi f x = pick (within lo hi x) (changedRight c (f x)) (f x)
 
 -- "more than 32 segments in an iomode": nothing is changed
 unfoldable pub editedIn : Change → ℕ → ℕ → Segments → Edited

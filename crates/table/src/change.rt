@@ -46,18 +46,11 @@ fn push_middle(d: Draft, items: [Segment; 32], n: usize, c: Change, first: u64, 
     }
 }
 
-// There are no more than 32 places, whatever the count says.
-fn used_places(count: usize) -> usize
-    ensures { λ r. ⌜ r ≡ min count 32 ⌝ }
-{
-    if count < 32 { count } else { 32 }
-}
-
 pub fn edit(g: Segments, c: Change, first: u64, last: u64) -> Edited
     ensures { λ r. ⌜ r ≡ editedIn c first last g ⌝ }
 {
     let items = g.items;
-    let n = used_places(g.count);
+    let n = segments::used_places(g.count);
     let d = parts::push_all_before(draft::empty_draft(), items, n, first);
     let e = push_middle(d, items, n, c, first, last);
     let r = parts::push_all_after(e, items, n, last);

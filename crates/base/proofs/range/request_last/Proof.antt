@@ -20,7 +20,7 @@ returns-2 : tie.Need-returns-2
 unfolding requestLast pick
 returns-2 c =
     let a = c .before .before .args in
-    rw (le-leb 1 (a .length) (omega arith), lt-leb (a .offset + a .length) (2 ^ 64 - 1) (omega arith))
+    rw (le-leb 1 (a .len) (omega arith), lt-leb (a .offset + a .len) (2 ^ 64 - 1) (omega arith))
 
 sub-t5 : tie.Need-sub-t5
 sub-t5 c = search needs
@@ -32,8 +32,8 @@ returns-3 : tie.Need-returns-3
 unfolding requestLast pick
 returns-3 c =
     let a = c .before .before .args in
-    let e : a .offset + (a .length - 1) ≡ a .offset + a .length - 1 = omega arith in
-    rw (le-leb 1 (a .length) (omega arith), le-leb (a .offset + a .length) (2 ^ 64 - 1) (omega arith)) (ap accepted e)
+    let e : a .offset + (a .len - 1) ≡ a .offset + a .len - 1 = omega arith in
+    rw (le-leb 1 (a .len) (omega arith), le-leb (a .offset + a .len) (2 ^ 64 - 1) (omega arith)) (ap accepted e)
 
 pub request-last-spec : {M : Type 1} → statement M
 request-last-spec = tie.close (tie.spec returns sub-if2 returns-2 sub-t5 add-t7 returns-3)

@@ -2,7 +2,7 @@
 use Rattle.base.specs.declared.iomode.Iomode.{Iomode}
 use Rattle.base.specs.declared.refusal.Refusal.the-variants.{HeldUnderOtherBody, RecalledInRange}
 use Rattle.events.proofs.EventLaws.{held-elsewhere, is-recalled, may-be-granted, refused-left}
-use Rattle.events.specs.Events.{elsewhere, granted}
+use Rattle.events.specs.Events.{afterGrant, elsewhere}
 use Rattle.lookup.specs.Lookup.{satisfies, tableMeets}
 use Rattle.lookup.specs.declared.range.Condition.{Condition}
 use Rattle.slots.specs.declared.home.Home.{Home}
@@ -35,7 +35,7 @@ returns c =
     ap (λ (k : Condition). tableMeets (satisfies k) (a .iomode) (a .first) (a .last) (a .t)) (sym (c .before .before .before .other-body .ensures)) ∙ (sym (c .before .before .meets .ensures) ∙ c .before .if1 .taken) in
     refused-left _ (now (a .store)) _ HeldUnderOtherBody (c .refused .ensures)
     ∙ (sym (held-elsewhere _ (now (a .store)) _ (now (a .body)) _ _ _ e)
-    ∙ ap (λ (h : Home). granted h (now (a .body)) (a .iomode) (a .first) (a .last) (a .t) (now (a .store))) (c .before .before .before .before .find-home .ensures))
+    ∙ ap (λ (h : Home). afterGrant h (now (a .body)) (a .iomode) (a .first) (a .last) (a .t) (now (a .store))) (c .before .before .before .before .find-home .ensures))
 
 meets-requires-2 : tie.Need-meets-requires-2
 meets-requires-2 c κs = search needs
@@ -53,7 +53,7 @@ returns-2 c =
     ap (λ (k : Condition). tableMeets (satisfies k) (a .iomode) (a .first) (a .last) (a .t)) (sym (c .before .before .before .before .before .other-body .ensures)) ∙ (sym (c .before .before .before .before .meets .ensures) ∙ c .before .before .before .if1 .left) in
     refused-left _ (now (a .store)) _ RecalledInRange (c .refused2 .ensures)
     ∙ (sym (is-recalled _ (now (a .store)) _ (now (a .body)) _ _ _ e (sym (c .before .before .meets2 .ensures) ∙ c .before .if2 .taken))
-    ∙ ap (λ (h : Home). granted h (now (a .body)) (a .iomode) (a .first) (a .last) (a .t) (now (a .store))) (c .before .before .before .before .before .before .find-home .ensures))
+    ∙ ap (λ (h : Home). afterGrant h (now (a .body)) (a .iomode) (a .first) (a .last) (a .t) (now (a .store))) (c .before .before .before .before .before .before .find-home .ensures))
 
 grant-at-requires : tie.Need-grant-at-requires
 grant-at-requires c κs = search needs
@@ -68,7 +68,7 @@ returns-3 c =
     ap (λ (k : Condition). tableMeets (satisfies k) (a .iomode) (a .first) (a .last) (a .t)) (sym (c .before .before .before .before .before .before .before .before .other-body .ensures)) ∙ (sym (c .before .before .before .before .before .before .before .meets .ensures) ∙ c .before .before .before .before .before .before .if1 .left) in
     c .before .before .grant-at .ensures
     ∙ (sym (may-be-granted _ (now (a .store)) _ (now (a .body)) _ _ _ e (sym (c .before .before .before .before .before .meets2 .ensures) ∙ c .before .before .before .before .if2 .left))
-    ∙ ap (λ (h : Home). granted h (now (a .body)) (a .iomode) (a .first) (a .last) (a .t) (now (a .store))) (c .before .before .before .before .before .before .before .before .before .find-home .ensures))
+    ∙ ap (λ (h : Home). afterGrant h (now (a .body)) (a .iomode) (a .first) (a .last) (a .t) (now (a .store))) (c .before .before .before .before .before .before .before .before .before .find-home .ensures))
 
 pub grant-body-spec : {M : Type 1} → statement M
 grant-body-spec =

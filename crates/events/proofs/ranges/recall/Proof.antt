@@ -22,7 +22,7 @@ same-length : tie.Need-same-length
 same-length c = search needs
 
 returns : tie.Need-returns
-returns c = refused-left _ (now (c .before .before .before .before .before .args .store)) _ Unsound (c .refused .ensures) ∙ sym (is-unsound _ (now (c .before .before .before .before .before .args .store)) (Recall (c .before .before .before .before .before .args .offset) (c .before .before .before .before .before .args .length) (c .before .before .before .before .before .args .iomode)) (sym (c .before .before .sound .ensures) ∙ not-true _ (c .before .if1 .taken)))
+returns c = refused-left _ (now (c .before .before .before .before .before .args .store)) _ Unsound (c .refused .ensures) ∙ sym (is-unsound _ (now (c .before .before .before .before .before .args .store)) (Recall (c .before .before .before .before .before .args .offset) (c .before .before .before .before .before .args .len) (c .before .before .before .before .before .args .iomode)) (sym (c .before .before .sound .ensures) ∙ not-true _ (c .before .if1 .taken)))
 
 read-span-requires : tie.Need-read-span-requires
 read-span-requires c κs = search needs
@@ -44,7 +44,7 @@ same-length-2 c = search needs
 
 returns-2 : tie.Need-returns-2
 unfolding own
-returns-2 c = refused-left _ (now (c .before .before .before .before .before .before .before .before .before .args .store)) _ _ (c .refused2 .ensures) ∙ sym (own-refused _ (now (c .before .before .before .before .before .before .before .before .before .args .store)) (Recall (c .before .before .before .before .before .before .before .before .before .args .offset) (c .before .before .before .before .before .before .before .before .before .args .length) (c .before .before .before .before .before .before .before .before .before .args .iomode)) _ (sym (c .before .before .before .before .before .before .sound .ensures) ∙ not-false _ (c .before .before .before .before .before .if1 .left)) (handed (orderOfSpan recalls) whySpan refused (c .before .before .before .before .read-span .ensures recalls) (c .before .before .enum-told .given .1) (c .before .why-span .ensures) refl))
+returns-2 c = refused-left _ (now (c .before .before .before .before .before .before .before .before .before .args .store)) _ _ (c .refused2 .ensures) ∙ sym (own-refused _ (now (c .before .before .before .before .before .before .before .before .before .args .store)) (Recall (c .before .before .before .before .before .before .before .before .before .args .offset) (c .before .before .before .before .before .before .before .before .before .args .len) (c .before .before .before .before .before .before .before .before .before .args .iomode)) _ (sym (c .before .before .before .before .before .before .sound .ensures) ∙ not-false _ (c .before .before .before .before .before .if1 .left)) (handed (orderOfSpan recalls) whySpan refused (c .before .before .before .before .read-span .ensures recalls) (c .before .before .enum-told .given .1) (c .before .why-span .ensures) refl))
 
 recall-range-requires : tie.Need-recall-range-requires
 recall-range-requires c κs = search needs
@@ -54,7 +54,7 @@ same-length-3 c = search needs
 
 returns-3 : tie.Need-returns-3
 unfolding own
-returns-3 c = c .before .before .recall-range .ensures ∙ sym (own-accepted _ (now (c .before .before .before .before .before .before .before .before .before .before .before .before .args .store)) (Recall (c .before .before .before .before .before .before .before .before .before .before .before .before .args .offset) (c .before .before .before .before .before .before .before .before .before .before .before .before .args .length) (c .before .before .before .before .before .before .before .before .before .before .before .before .args .iomode)) _ (sym (c .before .before .before .before .before .before .before .before .before .sound .ensures) ∙ not-false _ (c .before .before .before .before .before .before .before .before .if1 .left)) (came (orderOfSpan recalls) (c .before .before .before .before .before .before .before .read-span .ensures recalls) (c .before .before .before .before .before .s .given .1)))
+returns-3 c = c .before .before .recall-range .ensures ∙ sym (own-accepted _ (now (c .before .before .before .before .before .before .before .before .before .before .before .before .args .store)) (Recall (c .before .before .before .before .before .before .before .before .before .before .before .before .args .offset) (c .before .before .before .before .before .before .before .before .before .before .before .before .args .len) (c .before .before .before .before .before .before .before .before .before .before .before .before .args .iomode)) _ (sym (c .before .before .before .before .before .before .before .before .before .sound .ensures) ∙ not-false _ (c .before .before .before .before .before .before .before .before .if1 .left)) (came (orderOfSpan recalls) (c .before .before .before .before .before .before .before .read-span .ensures recalls) (c .before .before .before .before .before .s .given .1)))
 
 pub recall-spec : {M : Type 1} → statement M
 recall-spec =

@@ -17,8 +17,8 @@ Inv-loop first last c g n k₀ k = (k ≤ n) × (anyMeets (satisfies c) first la
 abbrev μ-loop : tie.MeasureT-loop
 μ-loop first last c g n k₀ k = n - k
 
-used-requires : tie.Need-used-requires Inv-loop μ-loop
-used-requires c κs = search needs
+used-places-requires : tie.Need-used-places-requires Inv-loop μ-loop
+used-places-requires c κs = search needs
 
 loop-holds : tie.Need-loop-holds Inv-loop μ-loop
 loop-holds c = (omega arith, refl)
@@ -71,7 +71,7 @@ any-meets-spec =
     (tie.spec
     Inv-loop
     μ-loop
-    used-requires
+    used-places-requires
     loop-holds
     mul-s
     element-copy-out-s

@@ -16,8 +16,8 @@ Inv-loop i g n k₀ k = (k ≤ n) × (anyNames (i .0) (listOf g) ≡ anyNames (i
 abbrev μ-loop : tie.MeasureT-loop
 μ-loop i g n k₀ k = n - k
 
-used-requires : tie.Need-used-requires Inv-loop μ-loop
-used-requires c κs = search needs
+used-places-requires : tie.Need-used-places-requires Inv-loop μ-loop
+used-places-requires c κs = search needs
 
 loop-holds : tie.Need-loop-holds Inv-loop μ-loop
 loop-holds c = (omega arith, refl)
@@ -67,7 +67,7 @@ any-names-spec =
     (tie.spec
     Inv-loop
     μ-loop
-    used-requires
+    used-places-requires
     loop-holds
     mul-s
     element-copy-out-s
