@@ -36,6 +36,7 @@ use Rattle.reference.proofs.Inv.{Inv, any-byte}
 use Rattle.reference.proofs.Decode.{isHolding, named-is}
 use Rattle.slots.specs.Slots.{clearedFrom}
 use Rattle.slots.proofs.ClearLaws.{clearedSlots}
+use Rattle.slots.proofs.SearchLaws.{cleared-one, kept-named}
 
 -- ---- a granted body is named
 
@@ -66,15 +67,6 @@ map-cleared t u f i (p ∷ ps) h =
     map-cleared t u f (suc i) ps (λ j k. let e : i + suc j ≡ suc i + j = omega arith in rw e at (h (suc j) (omega arith))) in
     λ k. first k ∷ rest k
 
-keeps : (a b : Bool) (s : Slot) → b ≡ true → pick (a && not b) empty s ≡ s
-unfolding pick
-keeps true b s e = rw e
-keeps false b s e = refl
-
-clears : (a b : Bool) (s : Slot) → a ≡ true → b ≡ false → pick (a && not b) empty s ≡ empty
-unfolding pick
-clears a b s e f = rw (e, f)
-
 module _ (N : ℕ) (M : Model) (o : Order) (v : Inv N M) (w : Inv N (act N o M)) (rising : o .first ≤ o .last) (ends : o .last ≤ N) where
   after-slot : (i : ℕ) → getD (act N o M .slots) i empty ≡ ifNamed N (act N o M .right) (getD (placed (o .deed) (M .slots)) i empty)
   unfolding act ifNamed
@@ -97,10 +89,10 @@ module _ (N : ℕ) (M : Model) (o : Order) (v : Inv N M) (w : Inv N (act N o M))
           → isNamed (tableOf N (act N o M)) i ≡ isHolding (pick t (holds b) empty)
           → (getD (M .slots) i empty ≡ holds b) ⊎ (o .deed ≡ grants b)
           → pick (isNamed (tableOf N M) i && not (isNamed (tableOf N (act N o M)) i)) empty (holds b) ≡ pick t (holds b) empty
-      go true g f h = keeps (isNamed (tableOf N M) i) (isNamed (tableOf N (act N o M)) i) (holds b) f
+      go true g f h = sym (kept-named (isNamed (tableOf N M) i) (isNamed (tableOf N (act N o M)) i) empty (holds b) f)
       go false g f h =
-          clears (isNamed (tableOf N M) i) (isNamed (tableOf N (act N o M)) i) (holds b)
-          (⊎-elim (λ k. named-is N M v i ∙ ap isHolding k) (λ k. absurd (false≢true (sym g ∙ granted-named N M o b rising ends k))) h) f
+          sym (cleared-one (isNamed (tableOf N M) i) (isNamed (tableOf N (act N o M)) i) empty (holds b)
+          (⊎-elim (λ k. named-is N M v i ∙ ap isHolding k) (λ k. absurd (false≢true (sym g ∙ granted-named N M o b rising ends k))) h) f)
 
   -- the slots that are cleared are those whose body no right names any more
   pub slots-cleared : clearedSlots (tableOf N M) (tableOf N (act N o M)) 0 (placed (o .deed) (M .slots)) ≡ act N o M .slots

@@ -118,7 +118,9 @@ pub cleared-all : (t u : Table) (i : ℕ) (store : List ℕ) → 8 ≤ i → cle
 unfolding clearedFrom
 cleared-all t u i store h = let e : 8 - i ≡ 0 = omega arith in rw e refl
 
-module _ (named still : Bool) (l m : List ℕ) where
+-- ---- one slot: cleared where it has lost its last name
+
+module _ {A : Type 0} (named still : Bool) (l m : A) where
   pub kept-unnamed : named ≡ false → m ≡ pick (named && not still) l m
   unfolding pick
   kept-unnamed e = rw e refl

@@ -10,7 +10,8 @@ use Rattle.segments.specs.Segments.{blank}
 use Rattle.table.specs.declared.draft.Draft.{Draft}
 use Rattle.table.specs.Edits.{pushAll}
 
--- the draft has the list in its places and blanks behind it, or says that the list has no room
+-- the draft has the list in its places and blanks behind it, or says that the list has no room; then its places do not matter, for the edit
+-- is refused
 pub record Holds (d : Draft) (l : List Segment) : Type 0 where
   pub small : d .count ≤ 32
   pub places : d .full ≡ false → d .items ≡ padded 32 blank l

@@ -28,7 +28,7 @@ pub(crate) fn empty_draft() -> Draft
 fn touches(a: Segment, s: Segment) -> bool
     ensures { λ r. ⌜ r ≡ touching a s ⌝ }
 {
-    // With no byte between the two, a ends below the largest number, so that the sum exists.
+    // What ends before another starts ends below the largest number, so that the sum exists.
     if a.last < s.first {
         if a.last + 1 == s.first {
             let x = a.right;
