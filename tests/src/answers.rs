@@ -7,6 +7,8 @@ use crate::layout::{read_layout_body, LayoutSummary};
 use crate::layout4::{read_layout4, Layout4};
 use crate::refusal::Refusal;
 use crate::report::{read_reports, write_reports, DeviceError, Reports};
+use crate::state::State;
+use crate::table_lines::table_case_line;
 use crate::xdr::Extent;
 
 /// "the output is filled with the byte 165 before the call"
@@ -15,9 +17,10 @@ const OUTPUT_FILL: u8 = 165;
 /// Everything printed for a case file: one line a case, then how it ended.
 pub fn answer_file(bytes: &[u8]) -> String {
     let mut file = CaseFile::new(bytes);
+    let mut state = State::default();
     let mut lines = String::new();
     for case in file.by_ref() {
-        lines.push_str(&answer_line(&case));
+        lines.push_str(&answer_line(&mut state, &case));
         lines.push('\n');
     }
     lines.push_str(&match file.ending() {
@@ -27,8 +30,9 @@ pub fn answer_file(bytes: &[u8]) -> String {
     lines
 }
 
-/// The line of one case, without its line end.
-pub fn answer_line(case: &Case) -> String {
+/// The line of one case, without its line end. Only cases of the table look at
+/// the state or change it.
+pub fn answer_line(state: &mut State, case: &Case) -> String {
     match case {
         Case::LayoutBody(body) => line("layout-body", read_layout_body(body), summary_text),
         Case::Layout4(bytes) => line("layout4", read_layout4(bytes), layout4_text),
@@ -36,6 +40,7 @@ pub fn answer_line(case: &Case) -> String {
         Case::Bind(request) => line("bind", bind(request), binding_text),
         Case::ReportRead(body) => line("report-read", read_reports(body), reports_text),
         Case::ReportWrite(case) => report_write_line(case),
+        Case::Table(case) => table_case_line(state, case),
     }
 }
 
@@ -149,10 +154,17 @@ fn hex(bytes: &[u8]) -> String {
 mod tests {
     use super::*;
     use crate::binding::BindRequest;
+    use crate::cases::CaseFileWriter;
+    use crate::event::Event;
     use crate::generate::bodies::{
         encode_reports, DevicePlan, Layout4Head, LayoutPlan, ReportPlan, ServerPlan,
     };
     use crate::report::ReportHead;
+    use crate::table_cases::TableCase;
+
+    fn answer_line(case: &Case) -> String {
+        super::answer_line(&mut State::default(), case)
+    }
 
     /// The 128 starts of a body with one server, whose place is always 16.
     fn one_start() -> String {
@@ -243,5 +255,17 @@ mod tests {
         assert_eq!(answer_file(&[]), "end 0\n");
         let file = [8, 0, 0, 0, 68, 0, 0, 0, 0, 0, 0, 0, 0, 0, 1];
         assert_eq!(answer_file(&file), "report-read reports=0\nstop 14\n");
+    }
+
+    #[test]
+    fn the_state_is_kept_from_case_to_case() {
+        let mut file = CaseFileWriter::default();
+        let place = TableCase::SetByte { place: 0, value: 1 };
+        let revoke = TableCase::Event(Event::Revoke);
+        for case in [&place, &revoke, &TableCase::Reset, &revoke] {
+            file.table(case);
+        }
+        let lines = "set-byte done\nrevoke refused 20\nreset done\nrevoke accepted\nend 29\n";
+        assert_eq!(answer_file(file.bytes()), lines);
     }
 }

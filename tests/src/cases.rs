@@ -3,7 +3,10 @@
 //! Numbers in a payload are little-endian unless the payload is a wire body.
 
 use crate::binding::BindRequest;
+use crate::event::Event;
+use crate::fields::Fields;
 use crate::report::{DeviceError, ReportHead, REPORT_LIMIT};
+use crate::table_cases::{encode_table_case, parse_table_case, TableCase};
 
 /// "A payload has at most 16,000 bytes."
 pub const PAYLOAD_LIMIT: usize = 16_000;
@@ -12,7 +15,7 @@ pub const OUTPUT_LIMIT: u32 = 4_096;
 /// The longest error list that a report-write case may hold.
 pub const ERROR_LIST_LIMIT: u32 = 128;
 
-/// The kinds of case, by their numbers in the file.
+/// The kinds of case of the wire part, by their numbers in the file.
 pub mod kind {
     pub const LAYOUT_BODY: u16 = 64;
     pub const LAYOUT4: u16 = 65;
@@ -31,6 +34,7 @@ pub enum Case<'a> {
     Bind(BindRequest<'a>),
     ReportRead(&'a [u8]),
     ReportWrite(Box<ReportWrite>),
+    Table(TableCase),
 }
 
 /// A case of writing reports. `report_count` may be more than the reports that
@@ -101,7 +105,7 @@ fn parse_case(kind: u16, payload: &[u8]) -> Option<Case<'_>> {
         kind::BIND => parse_bind(payload).map(Case::Bind),
         kind::REPORT_READ => Some(Case::ReportRead(payload)),
         kind::REPORT_WRITE => parse_report_write(payload).map(Box::new).map(Case::ReportWrite),
-        _ => None,
+        _ => parse_table_case(kind, payload).map(Case::Table),
     }
 }
 
@@ -154,39 +158,6 @@ fn parse_device_error(fields: &mut Fields) -> Option<DeviceError> {
     })
 }
 
-/// Little-endian fields taken from the front of what is left.
-struct Fields<'a> {
-    rest: &'a [u8],
-}
-
-impl<'a> Fields<'a> {
-    fn take(&mut self, length: usize) -> Option<&'a [u8]> {
-        let (taken, rest) = self.rest.split_at_checked(length)?;
-        self.rest = rest;
-        Some(taken)
-    }
-
-    fn fixed<const N: usize>(&mut self) -> Option<[u8; N]> {
-        self.take(N)?.try_into().ok()
-    }
-
-    fn u16(&mut self) -> Option<u16> {
-        self.fixed().map(u16::from_le_bytes)
-    }
-
-    fn u32(&mut self) -> Option<u32> {
-        self.fixed().map(u32::from_le_bytes)
-    }
-
-    fn u64(&mut self) -> Option<u64> {
-        self.fixed().map(u64::from_le_bytes)
-    }
-
-    fn u32_up_to(&mut self, limit: u32) -> Option<u32> {
-        self.u32().filter(|&value| value <= limit)
-    }
-}
-
 /// A case file being made.
 #[derive(Clone, Debug, Default)]
 pub struct CaseFileWriter {
@@ -232,6 +203,17 @@ impl CaseFileWriter {
             payload.extend(error.operation.to_le_bytes());
         }
         self.record(kind::REPORT_WRITE, &payload);
+    }
+
+    /// Appends a record that concerns the table.
+    pub fn table(&mut self, case: &TableCase) {
+        let (kind, payload) = encode_table_case(case);
+        self.record(kind, &payload);
+    }
+
+    /// Appends the record of an event.
+    pub fn event(&mut self, event: Event) {
+        self.table(&TableCase::Event(event));
     }
 
     /// Appends bytes that are no record.
@@ -291,7 +273,7 @@ mod tests {
 
     #[test]
     fn an_unknown_kind_and_a_long_payload_stop() {
-        for kind in [0, 63, 78, 64 + 256, u16::MAX] {
+        for kind in [0, 2, 3, 6, 7, 8, 10, 63, 78, 64 + 256, u16::MAX] {
             assert_eq!(ending(&record(kind, &[])), Ending::Stop(0));
         }
         assert_eq!(ending(&record(64, &[0; 16_000])), Ending::End(16_006));
@@ -355,7 +337,9 @@ mod tests {
         let mut file = CaseFileWriter::default();
         file.report_write(&case);
         file.bind(&request);
+        file.table(&TableCase::Reset);
         let read: Vec<_> = CaseFile::new(file.bytes()).collect();
-        assert_eq!(read, [Case::ReportWrite(Box::new(case)), Case::Bind(request)]);
+        let table = Case::Table(TableCase::Reset);
+        assert_eq!(read, [Case::ReportWrite(Box::new(case)), Case::Bind(request), table]);
     }
 }

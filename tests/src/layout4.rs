@@ -1,16 +1,15 @@
 //! The `layout4` structure of RFC 5661 with a flexible file body.
 
+use crate::iomode::{IOMODE_READ, IOMODE_RW};
 use crate::layout::{read_layout_body, LayoutSummary, BODY_LIMIT};
 use crate::range::check_range;
 use crate::refusal::Refusal;
 use crate::xdr::{require_zero_padding, Cursor};
 
-/// LAYOUTIOMODE4_READ: "READ is 1"
-pub const IOMODE_READ: u32 = 1;
-/// LAYOUTIOMODE4_RW: "RW is 2"
-pub const IOMODE_RW: u32 = 2;
 /// LAYOUT4_FLEX_FILES: "layout type (4, must be 4)"
 pub const FLEX_FILES: u32 = 4;
+/// Where the body starts in a `layout4`: 8 + 8 + 4 + 4 + 4 bytes stand before it.
+pub const BODY_IN_LAYOUT4: usize = 28;
 
 /// A `layout4` and the summary of its body, whose starts are counted from the
 /// body's first byte.
@@ -21,6 +20,13 @@ pub struct Layout4 {
     pub iomode: u32,
     pub body_length: usize,
     pub summary: LayoutSummary,
+}
+
+impl Layout4 {
+    /// The body in the bytes that this `layout4` was read from.
+    pub fn body<'a>(&self, bytes: &'a [u8]) -> &'a [u8] {
+        &bytes[BODY_IN_LAYOUT4..BODY_IN_LAYOUT4 + self.body_length]
+    }
 }
 
 /// Reads "offset (8), length (8), iomode (4), layout type (4, must be 4), body
@@ -75,6 +81,7 @@ mod tests {
         let layout = read_layout4(&bytes).unwrap();
         assert_eq!((layout.offset, layout.length), (4_096, 8_192));
         assert_eq!((layout.iomode, layout.body_length), (1, 80));
+        assert_eq!(layout.body(&bytes), smallest_body());
         // Counted from the body's first byte, not from the layout4's.
         assert_eq!(layout.summary.starts[0], 16);
     }

@@ -1,21 +1,37 @@
-//! An independent implementation of the wire part of a pNFS flexible file
-//! client core: the other side of a differential test.
+//! An independent implementation of the wire part and the segment table of a
+//! pNFS flexible file client core: the other side of a differential test.
 //!
 //! It is written from the scope paper ("01" in the comments) and RFC 8435,
 //! never from the sources under `crates/`. Where both sides print the same
 //! line for a case, two readings of the papers agree.
 //!
-//! Two words of 01 have other names here: its "spoken versions" are
-//! [`binding::SupportedVersions`], and what it calls "lent" is a borrowed slice.
+//! Some words of 01 have other names here: its "spoken versions" are
+//! [`binding::SupportedVersions`], its "shelf" is the [`store`], its "pencil
+//! list" the worked examples, and what it calls "lent" is a borrowed slice. Its
+//! [`ledger`] keeps its name.
 
 pub mod answers;
 pub mod binding;
 pub mod cases;
+pub mod cell_ledger;
 pub mod device;
+pub mod event;
+pub mod events;
+pub mod fields;
 pub mod generate;
+pub mod iomode;
 pub mod layout;
 pub mod layout4;
+pub mod ledger;
+pub mod ledger_slots;
 pub mod range;
 pub mod refusal;
 pub mod report;
+pub mod segments;
+pub mod soundness;
+pub mod state;
+pub mod store;
+pub mod table;
+pub mod table_cases;
+pub mod table_lines;
 pub mod xdr;

@@ -2,6 +2,26 @@
 
 use crate::refusal::Refusal;
 
+/// The last byte of a file.
+pub const LAST_BYTE: u64 = u64::MAX;
+
+/// The bytes of a range. Its end is inclusive, because one past the last byte
+/// of a file is no 64-bit number.
+#[derive(Clone, Copy, Debug, PartialEq, Eq)]
+pub struct ByteRange {
+    pub first: u64,
+    pub last: u64,
+}
+
+/// The bytes that an offset and a length name, or 5.
+pub fn byte_range(offset: u64, length: u64) -> Result<ByteRange, Refusal> {
+    check_range(offset, length)?;
+    // From offset 0, the length 2^64 - 1 also keeps the plain rule; the
+    // special meaning wins.
+    let last = if length == u64::MAX { LAST_BYTE } else { offset + (length - 1) };
+    Ok(ByteRange { first: offset, last })
+}
+
 /// 01: "A range has a length above 0. A length of 2^64 - 1 means through byte
 /// 2^64 - 1, from any offset. Otherwise offset + length must be at most
 /// 2^64 - 1."
@@ -25,6 +45,17 @@ mod tests {
         assert_eq!(check_range(MAX, MAX), Ok(()));
         assert_eq!(check_range(MAX, 1), Err(Refusal::BadRange));
         assert_eq!(check_range(MAX, 0), Err(Refusal::BadRange));
+    }
+
+    #[test]
+    fn the_bytes_of_a_range() {
+        let bytes = |offset, length| byte_range(offset, length).map(|r| (r.first, r.last));
+        assert_eq!(bytes(MAX, MAX), Ok((MAX, MAX)));
+        assert_eq!(bytes(0, MAX), Ok((0, MAX)));
+        assert_eq!(bytes(1, MAX - 1), Ok((1, MAX - 1)));
+        assert_eq!(bytes(40, 20), Ok((40, 59)));
+        assert_eq!(bytes(MAX - 1, 1), Ok((MAX - 1, MAX - 1)));
+        assert_eq!(bytes(MAX, 1), Err(Refusal::BadRange));
     }
 
     #[test]

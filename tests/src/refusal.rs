@@ -1,4 +1,4 @@
-//! The refusal numbers of 01 that the wire part gives.
+//! The refusal numbers of 01 that the wire part and the segment table give.
 
 /// Why an input is refused; the discriminant is the number in 01's table
 /// "Refusal numbers", and each comment is that table's condition.
@@ -9,7 +9,8 @@ pub enum Refusal {
     BytesRunOut = 1,
     /// "bytes are left over"
     BytesLeftOver = 2,
-    /// "iomode is not allowed: a grant takes READ or RW"
+    /// "iomode is not allowed: a grant takes READ or RW; return and recall take
+    /// all three"
     IomodeNotAllowed = 3,
     /// "layout type is not 4"
     NotFlexibleFiles = 4,
@@ -39,6 +40,18 @@ pub enum Refusal {
     StateidNotAnonymous = 15,
     /// "mirror or stripe number beyond the layout"
     BeyondLayout = 16,
+    /// "table or shelf is unsound"
+    Unsound = 20,
+    /// "a byte of the grant is held in that iomode under another body"
+    HeldUnderAnotherBody = 21,
+    /// "a byte of the grant is recalled in that iomode"
+    Recalled = 22,
+    /// "the resulting table would need more than 32 segments in an iomode"
+    TooManySegments = 23,
+    /// "the grant's body is not on the shelf and all 8 slots are named"
+    NoSlotLeft = 24,
+    /// "a recall meets no held byte in its range and iomode"
+    NothingToRecall = 25,
     /// "the output is too short"
     OutputTooShort = 26,
     /// "an error's operation is not 5, 25 or 38 (COMMIT, READ, WRITE), or its
@@ -62,6 +75,12 @@ mod tests {
         assert_eq!(Refusal::BytesRunOut.number(), 1);
         assert_eq!(Refusal::OutsideLimit.number(), 8);
         assert_eq!(Refusal::BeyondLayout.number(), 16);
+        assert_eq!(Refusal::Unsound.number(), 20);
+        assert_eq!(Refusal::HeldUnderAnotherBody.number(), 21);
+        assert_eq!(Refusal::Recalled.number(), 22);
+        assert_eq!(Refusal::TooManySegments.number(), 23);
+        assert_eq!(Refusal::NoSlotLeft.number(), 24);
+        assert_eq!(Refusal::NothingToRecall.number(), 25);
         assert_eq!(Refusal::OutputTooShort.number(), 26);
         assert_eq!(Refusal::BadDeviceError.number(), 27);
     }

@@ -4,11 +4,9 @@
 mod support;
 
 use independent::device::{read_device_body, NetidClass};
-use independent::generate::captured::{
-    captures_folder, read_captures, CaptureKind, BODY_IN_LAYOUT4, FOLDERS,
-};
+use independent::generate::captured::{captures_folder, read_captures, CaptureKind, FOLDERS};
 use independent::layout::{read_server_at, Server};
-use independent::layout4::read_layout4;
+use independent::layout4::{read_layout4, BODY_IN_LAYOUT4};
 use independent::refusal::Refusal;
 use independent::report::read_reports;
 use std::fs;

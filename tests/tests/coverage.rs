@@ -6,9 +6,24 @@ use independent::generate::{mixed::random_file, stored::stored_file};
 use std::collections::BTreeMap;
 
 /// The numbers of 01's table that belong to the wire part.
-const NUMBERS: [u32; 18] = [1, 2, 3, 4, 5, 6, 7, 8, 9, 10, 11, 12, 13, 14, 15, 16, 26, 27];
-const NAMES: [&str; 6] =
-    ["layout-body", "layout4", "device", "bind", "report-read", "report-write"];
+const WIRE_NUMBERS: [u32; 18] = [1, 2, 3, 4, 5, 6, 7, 8, 9, 10, 11, 12, 13, 14, 15, 16, 26, 27];
+/// Those that belong to the segment table.
+const TABLE_NUMBERS: [u32; 6] = [20, 21, 22, 23, 24, 25];
+/// The cases that are accepted or refused.
+const NAMES: [&str; 10] = [
+    "layout-body",
+    "layout4",
+    "device",
+    "bind",
+    "report-read",
+    "report-write",
+    "grant",
+    "return",
+    "recall",
+    "revoke",
+];
+/// The other cases, which always do what they say.
+const PLAIN_NAMES: [&str; 6] = ["table", "shelf", "set-byte", "set-segment", "reset", "lend"];
 
 /// How often each number stands behind "refused".
 fn refusals(answers: &str) -> BTreeMap<u32, usize> {
@@ -21,13 +36,15 @@ fn refusals(answers: &str) -> BTreeMap<u32, usize> {
     counts
 }
 
-fn assert_each_number_comes(answers: &str, least: usize) {
+fn assert_each_number_comes(answers: &str, least_wire: usize, least_table: usize) {
     let counts = refusals(answers);
-    for number in NUMBERS {
+    let wire = WIRE_NUMBERS.map(|number| (number, least_wire));
+    let table = TABLE_NUMBERS.map(|number| (number, least_table));
+    for (number, least) in wire.into_iter().chain(table) {
         let count = counts.get(&number).copied().unwrap_or(0);
         assert!(count >= least, "refusal {number} comes {count} times");
     }
-    assert_eq!(counts.len(), NUMBERS.len(), "other numbers: {counts:?}");
+    assert_eq!(counts.len(), wire.len() + table.len(), "other numbers: {counts:?}");
 }
 
 fn assert_each_name_is_accepted_and_refused(answers: &str) {
@@ -37,27 +54,44 @@ fn assert_each_name_is_accepted_and_refused(answers: &str) {
         assert!(answers.lines().filter(of_name).any(|line| refused(&line)), "{name} refused");
         assert!(answers.lines().filter(of_name).any(|line| !refused(&line)), "{name} accepted");
     }
+    for name in PLAIN_NAMES {
+        let count = answers.lines().filter(|line| line.split(' ').next() == Some(name)).count();
+        assert!(count >= 10, "{name} comes {count} times");
+    }
+}
+
+/// Tables in which an iomode has 32 segments, and stores with 8 bodies.
+fn assert_limits_are_reached(answers: &str) {
+    let lists =
+        answers.lines().filter(|line| line.starts_with("table ")).flat_map(|line| line.split(' '));
+    let full_lists = lists.filter(|list| list.matches(',').count() == 31).count();
+    assert!(full_lists >= 10, "{full_lists} lists of 32 segments");
+    let stores = answers.lines().filter(|line| line.starts_with("shelf "));
+    let full_stores = stores.filter(|line| !line.contains(" 0:")).count();
+    assert!(full_stores >= 10, "{full_stores} stores of 8 bodies");
 }
 
 #[test]
-fn the_stored_file_reaches_every_refusal_ten_times() {
+fn the_stored_file_reaches_every_refusal_often() {
     let answers = answer_file(&stored_file().expect("the captures"));
-    assert_each_number_comes(&answers, 10);
+    assert_each_number_comes(&answers, 10, 50);
     assert_each_name_is_accepted_and_refused(&answers);
+    assert_limits_are_reached(&answers);
 }
 
 #[test]
 fn the_stored_file_is_small_and_ends_properly() {
     let file = stored_file().expect("the captures");
     let answers = answer_file(&file);
-    assert!(file.len() < 700_000, "{} bytes of cases", file.len());
+    assert!(file.len() < 1_400_000, "{} bytes of cases", file.len());
     assert!(answers.len() < 900_000, "{} bytes of answers", answers.len());
     assert!(answers.ends_with(&format!("\nend {}\n", file.len())));
 }
 
 #[test]
 fn random_files_reach_every_refusal() {
-    let answers = answer_file(&random_file(1, 20_000));
-    assert_each_number_comes(&answers, 10);
+    let answers = answer_file(&random_file(1, 40_000));
+    assert_each_number_comes(&answers, 10, 50);
     assert_each_name_is_accepted_and_refused(&answers);
+    assert_limits_are_reached(&answers);
 }

@@ -57,8 +57,13 @@ pub(crate) fn put_hex(line: &mut [u8], at: usize, bytes: &[u8]) -> usize {
     n
 }
 
+// A refusal, behind the case's name.
+pub(crate) fn put_refused(line: &mut [u8], at: usize, e: Refusal) -> usize {
+    put_field(line, at, b" refused ", base::number(e) as u64)
+}
+
 // The answer to a case that was refused.
 pub(crate) fn put_refusal(line: &mut [u8], name: &[u8], e: Refusal) -> usize {
     let n = put_text(line, 0, name);
-    put_field(line, n, b" refused ", base::number(e) as u64)
+    put_refused(line, n, e)
 }

@@ -5,13 +5,12 @@ use super::bodies::{DevicePlan, VersionPlan, LOOSE_VERSIONS};
 use crate::binding::BindRequest;
 use crate::cases::{kind, CaseFileWriter};
 use crate::layout::{read_layout_body, read_server_at, LayoutSummary};
+use crate::layout4::BODY_IN_LAYOUT4;
 use std::path::{Path, PathBuf};
 use std::{fs, io};
 
 /// The two folders of captures.
 pub const FOLDERS: [&str; 2] = ["patched-server", "stock"];
-/// Where the body starts in a `layout4`: 8 + 8 + 4 + 4 + 4 bytes stand before it.
-pub const BODY_IN_LAYOUT4: usize = 28;
 
 /// What a captured file holds, by the letters in its name.
 #[derive(Clone, Copy, Debug, PartialEq, Eq)]

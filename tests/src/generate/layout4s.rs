@@ -28,7 +28,8 @@ pub fn add(cases: &mut CaseFileWriter) {
     }
 }
 
-fn all_layouts() -> Vec<Vec<u8>> {
+/// Every `layout4` of these cases, good and bad.
+pub fn all_layouts() -> Vec<Vec<u8>> {
     let mut layouts = Vec::new();
     add_ranges(&mut layouts);
     add_iomodes_and_types(&mut layouts);

@@ -1,9 +1,11 @@
 //! Random cases of all kinds, sound and damaged.
 
+use super::bad_records::{add_cut_record, add_record_without_form, add_unknown_kind};
 use super::bodies::{
     encode_reports, DevicePlan, Layout4Head, LayoutPlan, ReportPlan, ServerPlan, VersionPlan,
     LOOSE_VERSIONS, TIGHT_VERSIONS,
 };
+use super::event_bursts::EventSource;
 use super::layout4s::EDGES;
 use super::layouts::MOST_SERVERS;
 use super::random::Random;
@@ -13,13 +15,27 @@ use crate::binding::BindRequest;
 use crate::cases::{kind, CaseFileWriter};
 use crate::report::DeviceError;
 
-/// A file of `count` random cases. One seed in two adds a last record that
+/// The longest burst of cases that concern the table.
+const LONGEST_BURST: usize = 80;
+
+/// A file of `count` random cases; those of the table come in bursts, between
+/// which its state stays. One seed in two adds a last record that
 /// stops the run: a cut one, one of an unknown kind, or one without its form.
 pub fn random_file(seed: u64, count: usize) -> Vec<u8> {
     let mut random = Random::new(seed);
     let mut cases = CaseFileWriter::default();
-    for _ in 0..count {
-        add_case(&mut cases, &mut random);
+    let mut source = EventSource::new(&mut random);
+    let mut left = count;
+    while left > 0 {
+        if random.once_in(30) {
+            let length = random.between(1, LONGEST_BURST).min(left);
+            let burst = source.burst(&mut random, length);
+            burst.iter().for_each(|case| cases.table(case));
+            left -= length;
+        } else {
+            add_case(&mut cases, &mut random);
+            left -= 1;
+        }
     }
     match seed % 6 {
         3 => add_cut_record(&mut cases, &mut random),
@@ -30,7 +46,8 @@ pub fn random_file(seed: u64, count: usize) -> Vec<u8> {
     cases.into_bytes()
 }
 
-fn add_case(cases: &mut CaseFileWriter, random: &mut Random) {
+/// One case of the wire part.
+pub fn add_case(cases: &mut CaseFileWriter, random: &mut Random) {
     match random.below(6) {
         0 => {
             let wire = layout_plan(random).encode();
@@ -240,39 +257,6 @@ fn add_report_write(cases: &mut CaseFileWriter, random: &mut Random) {
         case.report_count = random.pick(&[9, 16, u32::MAX]);
     }
     cases.report_write(&case);
-}
-
-/// A record whose payload, or whose own first bytes, the file's end cuts.
-fn add_cut_record(cases: &mut CaseFileWriter, random: &mut Random) {
-    let mut record = CaseFileWriter::default();
-    add_case(&mut record, random);
-    let cut = random.between(1, record.bytes().len() - 1);
-    cases.raw(&record.bytes()[..cut]);
-}
-
-fn add_unknown_kind(cases: &mut CaseFileWriter, random: &mut Random) {
-    let unknown = [0, 2, 3, 6, 7, 8, 10, 63, 78, 79, 255, 256 + 64, 257, u16::MAX];
-    let length = random.below(20);
-    cases.record(random.pick(&unknown), &random.bytes(length));
-    add_case(cases, random);
-}
-
-/// A payload that is too long, or not of the form that its kind has.
-fn add_record_without_form(cases: &mut CaseFileWriter, random: &mut Random) {
-    match random.below(6) {
-        0 => cases.record(kind::LAYOUT_BODY, &[0; 16_001]),
-        1 => cases.record(kind::BIND, &vec![0; random.below(32)]),
-        // A layout length above the bytes that are there.
-        2 => cases.record(kind::BIND, &[[0; 28].as_slice(), &[5, 0, 0, 0, 1, 2, 3, 4]].concat()),
-        // An output above 4,096, a list above 128, and a byte too many.
-        3 => cases.record(kind::REPORT_WRITE, &[1, 16, 0, 0, 0, 0, 0, 0, 0, 0, 0, 0]),
-        4 => {
-            let head = [8, 0, 0, 0, 0, 0, 0, 0, 129, 0, 0, 0];
-            cases.record(kind::REPORT_WRITE, &[&head[..], &[1; 129 * 24]].concat());
-        }
-        _ => cases.record(kind::REPORT_WRITE, &[8, 0, 0, 0, 0, 0, 0, 0, 0, 0, 0, 0, 7]),
-    }
-    add_case(cases, random);
 }
 
 #[cfg(test)]

@@ -1,6 +1,9 @@
 //! The case file that is stored in the repository.
 
-use super::{bindings, captured, devices, layout4s, layouts, reports_read, reports_written};
+use super::{
+    bindings, captured, devices, event_bursts, file_ends, granted_bytes, layout4s, layouts,
+    overlaps, reports_read, reports_written, segment_limits, slot_limits, unsound,
+};
 use crate::cases::CaseFileWriter;
 use std::io;
 
@@ -17,5 +20,12 @@ pub fn stored_file() -> io::Result<Vec<u8>> {
     bindings::add(&mut cases);
     reports_read::add(&mut cases);
     reports_written::add(&mut cases);
+    file_ends::add(&mut cases);
+    overlaps::add(&mut cases);
+    segment_limits::add(&mut cases);
+    slot_limits::add(&mut cases);
+    granted_bytes::add(&mut cases);
+    unsound::add(&mut cases);
+    event_bursts::add(&mut cases);
     Ok(cases.into_bytes())
 }

@@ -38,6 +38,9 @@ same-length-2 c = search needs
 same-length-3 : tie.Need-same-length-3
 same-length-3 c = search needs
 
+same-length-4 : tie.Need-same-length-4
+same-length-4 c = search needs
+
 returns-3 : tie.Need-returns-3
 returns-3 c = search needs
 
@@ -56,4 +59,5 @@ put-record-spec =
     put-case-requires
     same-length-2
     same-length-3
+    same-length-4
     returns-3)

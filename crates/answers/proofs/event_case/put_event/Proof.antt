@@ -1,0 +1,55 @@
+-- `answers::event_case::put_event` is safe and ends. What is lent lies within the store.
+use borrow.Author.Needs.{needs}
+use lib.ListN.{length-take}
+use native.Mathlib.Omega.{arith}
+use Rattle.answers.proofs.event_case.put_event.Statement.{statement}
+use Rattle.answers.proofs.event_case.put_event.Tie as tie
+
+returns : tie.Need-returns
+returns c = search needs
+
+has-form-requires : tie.Need-has-form-requires
+has-form-requires c κs = search needs
+
+returns-2 : tie.Need-returns-2
+returns-2 c = search needs
+
+slice-relend-prefix-call : tie.Need-slice-relend-prefix-call
+slice-relend-prefix-call c = search needs
+
+slice-aggregate-call : tie.Need-slice-aggregate-call
+slice-aggregate-call c = simp length-take (omega arith)
+
+call-requires : tie.Need-call-requires
+call-requires c κs = search needs
+
+put-name-requires : tie.Need-put-name-requires
+put-name-requires c κs = search needs
+
+put-verdict-requires : tie.Need-put-verdict-requires
+put-verdict-requires c κs = search needs
+
+same-length : tie.Need-same-length
+same-length c = search needs
+
+same-length-2 : tie.Need-same-length-2
+same-length-2 c = search needs
+
+returns-3 : tie.Need-returns-3
+returns-3 c = search needs
+
+pub put-event-spec : {M : Type 1} → statement M
+put-event-spec =
+    tie.close
+    (tie.spec
+    returns
+    has-form-requires
+    returns-2
+    slice-relend-prefix-call
+    slice-aggregate-call
+    call-requires
+    put-name-requires
+    put-verdict-requires
+    same-length
+    same-length-2
+    returns-3)

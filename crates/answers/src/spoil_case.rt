@@ -1,0 +1,159 @@
+// The cases that spoil the table and the store, and bring them back.
+use crate::line::put_text;
+use crate::state::State;
+use crate::state::Told;
+use crate::state::start;
+use base::SlotNumber;
+use segments::Right;
+use segments::Segment;
+use segments::Segments;
+use segments::Table;
+
+// The payload has: place, value.
+pub(crate) fn set_byte(line: &mut [u8], payload: &[u8], store: &mut [u8]) -> usize {
+    if payload.len() != 5 {
+        return 0;
+    }
+    let place = numbers::le4(payload, 0) as usize;
+    if store.len() <= place {
+        return 0;
+    }
+    store[place] = payload[4];
+    put_text(line, 0, b"set-byte done")
+}
+
+fn right_of(right: u32, slot: u32) -> Right {
+    match right {
+        1 => Right::Granted(SlotNumber(slot)),
+        2 => Right::Recalled(SlotNumber(slot)),
+        _ => Right::None,
+    }
+}
+
+fn is_blank(s: Segment) -> bool {
+    if s.first != 0 {
+        return false;
+    }
+    if s.last != 0 {
+        return false;
+    }
+    let right = s.right;
+    segments::same_right(Right::None, right)
+}
+
+// The number of places before the first blank one.
+fn count_of(items: [Segment; 32]) -> usize {
+    let mut i: usize = 0;
+    while i < 32 {
+        let s = items[i];
+        if is_blank(s) {
+            return i;
+        }
+        i += 1;
+    }
+    32
+}
+
+// A place past the last one changes nothing.
+fn with_place(g: Segments, place: usize, s: Segment) -> Segments {
+    if 32 <= place {
+        return g;
+    }
+    let mut items = g.items;
+    items[place] = s;
+    Segments {
+        items,
+        count: count_of(items),
+    }
+}
+
+// The payload has: iomode, place, first, last, right, slot.
+fn segment_of(payload: &[u8]) -> Segment {
+    let right = right_of(numbers::le4(payload, 24), numbers::le4(payload, 28));
+    Segment {
+        first: numbers::le8(payload, 8),
+        last: numbers::le8(payload, 16),
+        right,
+    }
+}
+
+fn has_form(payload: &[u8]) -> bool {
+    if payload.len() != 32 {
+        return false;
+    }
+    let iomode = numbers::le4(payload, 0);
+    if iomode != 1 && iomode != 2 {
+        return false;
+    }
+    if 31 < numbers::le4(payload, 4) {
+        return false;
+    }
+    if 2 < numbers::le4(payload, 24) {
+        return false;
+    }
+    numbers::le4(payload, 28) <= 255
+}
+
+fn with_segment(t: Table, iomode: u32, place: usize, s: Segment) -> Table {
+    let read = t.read;
+    let rw = t.rw;
+    if iomode == 1 {
+        return Table {
+            read: with_place(read, place, s),
+            rw,
+        };
+    }
+    Table {
+        read,
+        rw: with_place(rw, place, s),
+    }
+}
+
+pub(crate) fn set_segment(line: &mut [u8], payload: &[u8], state: State) -> Told {
+    if !has_form(payload) {
+        return Told { state, length: 0 };
+    }
+    let iomode = numbers::le4(payload, 0);
+    let place = numbers::le4(payload, 4) as usize;
+    let before = state.table;
+    let table = with_segment(before, iomode, place, segment_of(payload));
+    let n = put_text(line, 0, b"set-segment done");
+    let after = State {
+        table,
+        lent: state.lent,
+    };
+    Told {
+        state: after,
+        length: n,
+    }
+}
+
+pub(crate) fn reset(line: &mut [u8], payload: &[u8], state: State, store: &mut [u8]) -> Told {
+    if payload.len() != 0 {
+        return Told { state, length: 0 };
+    }
+    let size = store.len();
+    numbers::put_zeros(store, 0, size);
+    let n = put_text(line, 0, b"reset done");
+    Told {
+        state: start(),
+        length: n,
+    }
+}
+
+pub(crate) fn lend(line: &mut [u8], payload: &[u8], state: State) -> Told {
+    if payload.len() != 4 {
+        return Told { state, length: 0 };
+    }
+    let lent = numbers::le4(payload, 0) as usize;
+    if 32768 < lent {
+        return Told { state, length: 0 };
+    }
+    let table = state.table;
+    let n = put_text(line, 0, b"lend done");
+    let after = State { table, lent };
+    Told {
+        state: after,
+        length: n,
+    }
+}

@@ -1,0 +1,86 @@
+//! Last records that stop the run of a random file.
+
+use super::mixed::add_case;
+use super::random::Random;
+use crate::cases::{kind, CaseFileWriter};
+use crate::event::{Event, RangeNumbers};
+use crate::iomode::{Iomode, IOMODE_ANY};
+use crate::segments::Segment;
+use crate::table_cases::{encode_table_case, kind as table_kind, TableCase};
+
+/// A record whose payload, or whose own first bytes, the file's end cuts.
+pub fn add_cut_record(cases: &mut CaseFileWriter, random: &mut Random) {
+    let mut record = CaseFileWriter::default();
+    add_case(&mut record, random);
+    let cut = random.between(1, record.bytes().len() - 1);
+    cases.raw(&record.bytes()[..cut]);
+}
+
+pub fn add_unknown_kind(cases: &mut CaseFileWriter, random: &mut Random) {
+    let unknown = [0, 2, 3, 6, 7, 8, 10, 63, 78, 79, 255, 256 + 64, 257, u16::MAX];
+    let length = random.below(20);
+    cases.record(random.pick(&unknown), &random.bytes(length));
+    add_case(cases, random);
+}
+
+/// A payload that is too long, or not of the form that its kind has.
+pub fn add_record_without_form(cases: &mut CaseFileWriter, random: &mut Random) {
+    match random.below(8) {
+        0 => cases.record(kind::LAYOUT_BODY, &[0; 16_001]),
+        1 => cases.record(kind::BIND, &vec![0; random.below(32)]),
+        // A layout length above the bytes that are there.
+        2 => cases.record(kind::BIND, &[[0; 28].as_slice(), &[5, 0, 0, 0, 1, 2, 3, 4]].concat()),
+        // An output above 4,096, a list above 128, and a byte too many.
+        3 => cases.record(kind::REPORT_WRITE, &[1, 16, 0, 0, 0, 0, 0, 0, 0, 0, 0, 0]),
+        4 => {
+            let head = [8, 0, 0, 0, 0, 0, 0, 0, 129, 0, 0, 0];
+            cases.record(kind::REPORT_WRITE, &[&head[..], &[1; 129 * 24]].concat());
+        }
+        5 => cases.record(kind::REPORT_WRITE, &[8, 0, 0, 0, 0, 0, 0, 0, 0, 0, 0, 0, 7]),
+        6 => add_table_number_beyond_its_limit(cases, random),
+        _ => add_table_payload_of_another_length(cases, random),
+    }
+    add_case(cases, random);
+}
+
+/// A byte behind the store, more of it than there is, and an iomode, place,
+/// right or slot that no segment can be set to.
+fn add_table_number_beyond_its_limit(cases: &mut CaseFileWriter, random: &mut Random) {
+    match random.below(3) {
+        0 => cases.record(table_kind::SET_BYTE, &[0, 128, 0, 0, 1]),
+        1 => cases.record(table_kind::LEND, &[1, 128, 0, 0]),
+        _ => {
+            let mut payload = [0; 32];
+            payload[0] = 1;
+            payload[24] = 1;
+            let (at, value) = random.pick(&[(0, 0), (0, 3), (4, 32), (24, 3), (29, 1)]);
+            payload[at] = value;
+            cases.record(table_kind::SET_SEGMENT, &payload);
+        }
+    }
+}
+
+/// One byte more or less than a case of the table has.
+fn add_table_payload_of_another_length(cases: &mut CaseFileWriter, random: &mut Random) {
+    let numbers = RangeNumbers { offset: 0, length: u64::MAX, iomode: IOMODE_ANY };
+    let segment =
+        TableCase::SetSegment { iomode: Iomode::Read, place: 0, segment: Segment::default() };
+    let all = [
+        TableCase::Event(Event::Return(numbers)),
+        TableCase::Event(Event::Recall(numbers)),
+        TableCase::Event(Event::Revoke),
+        TableCase::ShowTable,
+        TableCase::ShowStore,
+        TableCase::SetByte { place: 0, value: 0 },
+        segment,
+        TableCase::Reset,
+        TableCase::Lend(0),
+    ];
+    let (kind, mut payload) = encode_table_case(&all[random.below(all.len())]);
+    if payload.is_empty() || random.once_in(2) {
+        payload.push(0);
+    } else {
+        payload.pop();
+    }
+    cases.record(kind, &payload);
+}

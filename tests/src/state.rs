@@ -1,0 +1,57 @@
+//! What the program keeps from case to case: a table, a store, and how much of
+//! the store a call is given.
+
+use crate::event::Event;
+use crate::events::apply_event;
+use crate::iomode::Iomode;
+use crate::refusal::Refusal;
+use crate::segments::Segment;
+use crate::soundness::check_sound;
+use crate::store::STORE_LENGTH;
+use crate::table::Table;
+
+/// "one table, empty at the start, and one shelf of 32,768 bytes, zero at the
+/// start"
+#[derive(Clone, Debug, PartialEq, Eq)]
+pub struct State {
+    pub table: Table,
+    pub store: Vec<u8>,
+    lent: usize,
+}
+
+impl Default for State {
+    fn default() -> Self {
+        State { table: Table::default(), store: vec![0; STORE_LENGTH], lent: STORE_LENGTH }
+    }
+}
+
+impl State {
+    /// Puts an event to the table and the part of the store that is lent.
+    pub fn apply(&mut self, event: &Event) -> Result<(), Refusal> {
+        apply_event(&mut self.table, &mut self.store[..self.lent], event)
+    }
+
+    /// Whether the next call will find a sound table and store.
+    pub fn is_sound(&self) -> bool {
+        check_sound(&self.table, &self.store[..self.lent]).is_ok()
+    }
+
+    /// Gives later calls the first bytes of the store only.
+    pub fn lend(&mut self, length: usize) {
+        self.lent = length.min(STORE_LENGTH);
+    }
+
+    /// Spoils a byte of the store; a place behind its end is none.
+    pub fn set_byte(&mut self, place: usize, value: u8) {
+        if let Some(byte) = self.store.get_mut(place) {
+            *byte = value;
+        }
+    }
+
+    /// Spoils a place of the table; the 33rd is none.
+    pub fn set_segment(&mut self, iomode: Iomode, place: usize, segment: Segment) {
+        if let Some(kept) = self.table.place_mut(iomode, place) {
+            *kept = segment;
+        }
+    }
+}

@@ -1,0 +1,145 @@
+//! The lines of the cases that concern the table and its store.
+
+use crate::event::Event;
+use crate::iomode::Iomode;
+use crate::segments::{Right, Segment};
+use crate::state::State;
+use crate::store::{slots, stated_length};
+use crate::table::Table;
+use crate::table_cases::TableCase;
+
+/// The checksum's factor and modulus: "(C * 257 + byte) mod 4,294,967,291"
+const CHECKSUM_FACTOR: u64 = 257;
+const CHECKSUM_MODULUS: u64 = 4_294_967_291;
+
+/// Puts a case to the program's state and gives its line.
+pub fn table_case_line(state: &mut State, case: &TableCase) -> String {
+    match case {
+        TableCase::Event(event) => event_line(state, event),
+        TableCase::ShowTable => table_line(&state.table),
+        TableCase::ShowStore => store_line(&state.store),
+        TableCase::SetByte { place, value } => {
+            state.set_byte(*place, *value);
+            "set-byte done".to_string()
+        }
+        TableCase::SetSegment { iomode, place, segment } => {
+            state.set_segment(*iomode, *place, *segment);
+            "set-segment done".to_string()
+        }
+        TableCase::Reset => {
+            *state = State::default();
+            "reset done".to_string()
+        }
+        TableCase::Lend(length) => {
+            state.lend(*length);
+            "lend done".to_string()
+        }
+    }
+}
+
+fn event_line(state: &mut State, event: &Event) -> String {
+    match state.apply(event) {
+        Ok(()) => format!("{} accepted", event.name()),
+        Err(refusal) => format!("{} refused {}", event.name(), refusal.number()),
+    }
+}
+
+fn table_line(table: &Table) -> String {
+    let list =
+        |iomode| table.segments(iomode).iter().map(segment_text).collect::<Vec<_>>().join(",");
+    format!("table read={} rw={}", list(Iomode::Read), list(Iomode::ReadWrite))
+}
+
+/// "a place there whose right is none prints `n` and no number"
+fn segment_text(segment: &Segment) -> String {
+    let Segment { first, last, right } = segment;
+    match right {
+        Right::None => format!("{first}-{last}:n"),
+        Right::Granted(slot) => format!("{first}-{last}:g{slot}"),
+        Right::Recalled(slot) => format!("{first}-{last}:r{slot}"),
+    }
+}
+
+/// "the whole 32,768 bytes, whatever is lent"
+fn store_line(store: &[u8]) -> String {
+    let slot_text = |slot: &[u8]| format!(" {}:{}", stated_length(slot), checksum(slot));
+    let texts: String = slots(store).map(slot_text).collect();
+    format!("shelf{texts}")
+}
+
+fn checksum(bytes: &[u8]) -> u64 {
+    bytes.iter().fold(0, |sum, &byte| (sum * CHECKSUM_FACTOR + u64::from(byte)) % CHECKSUM_MODULUS)
+}
+
+#[cfg(test)]
+mod tests {
+    use super::*;
+    use crate::event::RangeNumbers;
+    use crate::generate::bodies::{Layout4Head, LayoutPlan};
+
+    fn set_segment(place: usize, first: u64, last: u64, right: Right) -> TableCase {
+        let segment = Segment { first, last, right };
+        TableCase::SetSegment { iomode: Iomode::Read, place, segment }
+    }
+
+    #[test]
+    fn checksums() {
+        assert_eq!(checksum(&[]), 0);
+        assert_eq!(checksum(&[1, 2, 3]), (257 + 2) * 257 + 3);
+        // 257^4 is 4,362,470,401.
+        assert_eq!(checksum(&[1, 0, 0, 0, 0]), 4_362_470_401 - CHECKSUM_MODULUS);
+    }
+
+    #[test]
+    fn event_lines() {
+        let mut state = State::default();
+        let mut line = |event| table_case_line(&mut state, &TableCase::Event(event));
+        let body = LayoutPlan::plain(1, 1).encode().bytes;
+        let numbers = RangeNumbers { offset: 0, length: u64::MAX, iomode: 2 };
+        assert_eq!(line(Event::Recall(numbers)), "recall refused 25");
+        assert_eq!(line(Event::Grant(Vec::new())), "grant refused 1");
+        assert_eq!(line(Event::Grant(Layout4Head::whole_file().around(&body))), "grant accepted");
+        assert_eq!(line(Event::Recall(numbers)), "recall accepted");
+        assert_eq!(line(Event::Return(numbers)), "return accepted");
+        assert_eq!(line(Event::Revoke), "revoke accepted");
+        let bad = RangeNumbers { offset: 0, length: 0, iomode: 9 };
+        assert_eq!(line(Event::Return(bad)), "return refused 5");
+    }
+
+    #[test]
+    fn table_lines() {
+        let mut state = State::default();
+        let mut line = |case: TableCase| table_case_line(&mut state, &case);
+        assert_eq!(line(TableCase::ShowTable), "table read= rw=");
+        assert_eq!(line(set_segment(0, 5, 9, Right::Granted(200))), "set-segment done");
+        line(set_segment(1, 7, 3, Right::None));
+        line(set_segment(2, 0, 0, Right::Recalled(0)));
+        line(set_segment(4, 1, 1, Right::Granted(1)));
+        assert_eq!(line(TableCase::ShowTable), "table read=5-9:g200,7-3:n,0-0:r0 rw=");
+        // The blank place hides what follows it.
+        line(set_segment(3, 0, 0, Right::None));
+        assert_eq!(line(TableCase::ShowTable), "table read=5-9:g200,7-3:n,0-0:r0 rw=");
+        line(set_segment(0, 0, 0, Right::None));
+        assert_eq!(line(TableCase::ShowTable), "table read= rw=");
+        assert_eq!(line(TableCase::Event(Event::Revoke)), "revoke refused 20");
+        assert_eq!(line(TableCase::Reset), "reset done");
+        assert_eq!(line(TableCase::Event(Event::Revoke)), "revoke accepted");
+    }
+
+    #[test]
+    fn store_lines() {
+        let mut state = State::default();
+        let mut line = |case: TableCase| table_case_line(&mut state, &case);
+        assert_eq!(line(TableCase::ShowStore), "shelf 0:0 0:0 0:0 0:0 0:0 0:0 0:0 0:0");
+        assert_eq!(line(TableCase::SetByte { place: 8_191, value: 9 }), "set-byte done");
+        assert_eq!(line(TableCase::Lend(5)), "lend done");
+        assert_eq!(line(TableCase::ShowStore), "shelf 0:0 0:9 0:0 0:0 0:0 0:0 0:0 0:0");
+        assert_eq!(line(TableCase::Event(Event::Revoke)), "revoke refused 20");
+        line(TableCase::SetByte { place: 8_191, value: 0 });
+        assert_eq!(line(TableCase::Event(Event::Revoke)), "revoke refused 20");
+        line(TableCase::Lend(32_768));
+        assert_eq!(line(TableCase::Event(Event::Revoke)), "revoke accepted");
+        line(TableCase::SetByte { place: 28_673, value: 2 });
+        assert!(line(TableCase::ShowStore).contains(" 512:"));
+    }
+}
