@@ -20,7 +20,9 @@ ghost use Rattle.report_write.specs.Writing.{ErrorRecord, reportsWritten};
 ghost use Rattle.base.specs.Ranges.{toTheEnd};
 ghost use Rattle.segments.specs.declared.Table.{Table};
 ghost use Rattle.segments.specs.Segments.{emptyTable, listOf};
-ghost use Rattle.reference.specs.Claim.{AllFit, Demand3, storeLeft, tableLeft};
+ghost use Rattle.reference.specs.Claim.{AllFit, Calls, Demand3, storeLeft, tableLeft};
+ghost use Rattle.reference.specs.Cases.{AllHold, cases};
+ghost use Rattle.reference.specs.StandIns.{changesNothing, firstOnly, refusesAll};
 ghost use Rattle.reference.specs.Sound.{sound};
 ghost use Rattle.reference.specs.Model.{Event, Recall, Return, Revoke};
 ghost use Rattle.events.specs.Events.{InFile, called};
@@ -85,6 +87,19 @@ pub fn no_report_is_eight_zeros()
 // zeroed store their answers, table and store are the reference model's. Demand3 (reference/specs/Claim.antt) has its parts, one a sentence.
 pub fn demand_3()
     ensures { λ r. ⌜ Demand3 called ⌝ }
+{}
+
+// Demand 3 fails of calls that refuse everything with one number, of calls that answer as any others do and change nothing, and of calls that obey
+// any others only while nothing is held.
+pub fn stand_ins_fall()
+    ensures { λ r. ⌜ ((n : ℕ) → (n ≡ 0 → ⊥) → Demand3 (refusesAll n) → ⊥)
+        × ((call : Calls) → Demand3 (changesNothing call) → ⊥)
+        × ((call : Calls) → Demand3 (firstOnly call) → ⊥) ⌝ }
+{}
+
+// The scope paper's worked examples of the table, computed on the reference model for short files: answers and segments of each list of events.
+pub fn table_examples_hold()
+    ensures { λ r. ⌜ AllHold cases ⌝ }
 {}
 
 // A refused event leaves table and store as they were, whatever they are.

@@ -6,3 +6,5 @@ pub mod Decode
 pub mod SoundLaws
 pub mod OwnLaws
 pub mod FromStep
+pub mod Examples
+pub mod StandIns

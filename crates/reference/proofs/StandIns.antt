@@ -1,0 +1,220 @@
+-- The stand-ins do not meet demand 3: they fall to a grant of the whole file, one of them with a revoke behind it.
+use Prim.Native.Nat.{ℕ, zero, suc, _<_}
+use mathlib.Core.Path.{_≡_, refl, sym, ap, ap₂, _∙_}
+use mathlib.Core.Bool.{Bool, true, false, _&&_, and-false, false≢true}
+use mathlib.Core.List.{List, [], _∷_}
+use native.Mathlib.Omega.{arith}
+use borrow.Author.Tests.{le-leb, ltb-true, ne-eqb}
+use lib.Dec.{ltb}
+use lib.ListN.{getD, replicate}
+use Rattle.base.specs.Answer.{accepted, given, pick}
+use Rattle.base.specs.Iomodes.{grantIomodeOf}
+use Rattle.base.specs.Ranges.{lastByte, rangeLast, requestLast, toTheEnd}
+use Rattle.base.specs.declared.iomode.Iomode.the-variants.{ReadWrite}
+use Rattle.numbers.specs.Numbers.{AllBytes, beBytes, beFrom, beValue}
+use Rattle.xdr.specs.Res.{inside, manyAt, then, whole}
+use Rattle.xdr.specs.Items.{allZero, bytesAt, countAt, numAt, opaqueAt}
+use Rattle.server.specs.Servers.{handlesAt, headAt, serverAt}
+use Rattle.layout.specs.Layouts.{frontAt, layoutAt, layoutBody, mirrorsAt, tailAt, unitFits}
+use Rattle.layout4.specs.Layout4s.{frameAt, layout4, layout4At, rangeAt}
+use Rattle.segments.specs.declared.Table.{Table}
+use Rattle.segments.specs.Segments.{Mode, READ, RW, anyBelow, emptyTable, inPlaces, rightAt, segmentsOf}
+use Rattle.segments.proofs.Canon.{Below, Canon, at-in, granted-some}
+use Rattle.segments.proofs.Fewest.{scan-only}
+use Rattle.segments.proofs.ScanLaws.{any-none}
+use Rattle.store.specs.Store.{Body, Slot}
+use Rattle.reference.specs.Model.{
+  ByteRight,
+  none,
+  granted,
+  Event,
+  Revoke,
+  Order,
+  act,
+  afterAt,
+  answerTo,
+  answers,
+  anyByte,
+  covers,
+  grantOrder,
+  grants,
+  inSlots,
+  meets,
+  noneEmpty,
+  own,
+  segmentsIn,
+  slotOf,
+  start,
+  stops21,
+  stops22,
+  tooMany,
+  verdict,
+  withSlot,
+}
+use Rattle.reference.specs.Claim.{
+  AllFit,
+  Calls,
+  Demand3,
+  Left,
+  acceptedOf,
+  answered,
+  orderOf,
+  rightGiven,
+  rightIn,
+  storeLeft,
+  tableLeft,
+}
+use Rattle.reference.specs.Cases.{body, grantBytes, grantOf, grantedIn}
+use Rattle.reference.specs.StandIns.{changesNothing, firstOnly, refusesAll}
+use Rattle.reference.proofs.Inv.{no-segments}
+
+-- ---- at the start the model accepts a grant of every byte
+
+no-byte-met : (N : ℕ) (o : Order) (test : ByteRight → Bool) → test none ≡ false → meets N o test start ≡ false
+unfolding meets anyByte
+no-byte-met N o test h = rw (nowhere READ, nowhere RW)
+  where
+    nowhere : (m : Mode) → anyBelow (λ x. covers o m x && test none) (suc N) ≡ false
+    nowhere m = any-none (λ x. covers o m x && test none) (suc N) (λ x k. rw h (and-false (covers o m x)))
+
+module _ (N : ℕ) (b : Body) where
+  abbrev every : Order
+  every = record { deed = grants b; iomode = ReadWrite; first = 0; last = N }
+
+  one-segment : (ss : List Slot) → segmentsOf N (λ x. withSlot ss (afterAt every RW x none)) ≡ grantedIn (slotOf b ss) 0 N ∷ []
+  unfolding Canon Below afterAt covers pick
+  one-segment ss =
+      sym
+      (scan-only N (λ x. withSlot ss (afterAt every RW x none)) (grantedIn (slotOf b ss) 0 N ∷ [])
+      (omega arith, omega arith, granted-some _, λ e. granted-some _, tt)
+      (omega arith, tt)
+      (λ x h. at-in (grantedIn (slotOf b ss) 0 N) [] x (omega arith) h ∙ rw (le-leb 0 x (omega arith), le-leb x N h)))
+
+  no-segment : (ss : List Slot) → segmentsOf N (λ x. withSlot ss (afterAt every READ x none)) ≡ []
+  unfolding afterAt covers pick
+  no-segment ss = sym (no-segments N)
+
+  rw-list : segmentsIn N (act N every start) RW ≡ grantedIn (slotOf b (act N every start .slots)) 0 N ∷ []
+  unfolding segmentsIn act
+  rw-list = one-segment (act N every start .slots)
+
+  read-list : segmentsIn N (act N every start) READ ≡ []
+  unfolding segmentsIn act
+  read-list = no-segment (act N every start .slots)
+
+  few-segments : tooMany N (act N every start) ≡ false
+  unfolding tooMany
+  few-segments = rw (read-list, rw-list)
+
+  every-byte-granted : verdict N every start ≡ 0
+  unfolding verdict inSlots noneEmpty
+  every-byte-granted =
+      rw (no-byte-met N every (stops21 (grants b)) refl, no-byte-met N every (stops22 (grants b)) refl, few-segments)
+
+-- ---- that grant, in its bytes
+
+unfoldable wholeFile : Event
+wholeFile = grantOf 0 toTheEnd 2 0
+
+whole-file-read : own wholeFile ≡ accepted (record { deed = grants (body 0); iomode = ReadWrite; first = 0; last = lastByte })
+unfolding wholeFile own grantOrder given pick body grantBytes beBytes beFrom beValue layout4 layout4At frameAt rangeAt rangeLast requestLast grantIomodeOf then inside whole manyAt allZero bytesAt countAt numAt opaqueAt headAt handlesAt serverAt frontAt layoutAt layoutBody mirrorsAt tailAt unitFits
+whole-file-read = refl
+
+whole-file-accepted : answers lastByte (wholeFile ∷ []) start ≡ 0 ∷ []
+unfolding answers answerTo
+whole-file-accepted = rw whole-file-read (ap (λ (n : ℕ). n ∷ []) (every-byte-granted lastByte (body 0)))
+
+-- each element is a byte, by a test
+unfoldable areBytes : List ℕ → Bool
+areBytes [] = true
+areBytes (b ∷ bs) = ltb b 256 && areBytes bs
+
+tested-bytes : (bs : List ℕ) → areBytes bs ≡ true → AllBytes bs
+unfolding areBytes
+tested-bytes [] e i = omega arith
+tested-bytes (b ∷ bs) e i = go (ltb b 256) refl e i (λ k j. tested-bytes bs k j)
+  where
+    go : (t : Bool) → ltb b 256 ≡ t → (t && areBytes bs) ≡ true → (i : ℕ) → (areBytes bs ≡ true → AllBytes bs) → getD (b ∷ bs) i 0 < 256
+    go true h k zero rest = ltb-true b 256 h
+    go true h k (suc i) rest = rest k i
+    go false h k i rest = absurd (false≢true k)
+
+whole-file-fits : AllFit (wholeFile ∷ [])
+unfolding AllFit wholeFile grantBytes body beBytes areBytes
+whole-file-fits = (tested-bytes (grantBytes 0 toTheEnd 2 0) refl, tt)
+
+whole-file-revoke-fits : AllFit (wholeFile ∷ Revoke ∷ [])
+unfolding AllFit
+whole-file-revoke-fits = (whole-file-fits .0, (tt, tt))
+
+-- ---- rights that the events give, and that a table shows
+
+granted-by-it : rightGiven (acceptedOf (wholeFile ∷ []) (0 ∷ [])) RW 0 none ≡ granted (body 0)
+unfolding rightGiven acceptedOf orderOf afterAt covers pick
+granted-by-it = rw whole-file-read refl
+
+revoked-behind-it : rightGiven (acceptedOf (wholeFile ∷ Revoke ∷ []) (0 ∷ 0 ∷ [])) RW 0 none ≡ none
+unfolding rightGiven acceptedOf orderOf afterAt covers pick own
+revoked-behind-it = rw whole-file-read refl
+
+no-right-shown : (t : Table) (store : List ℕ) (x : ℕ) → t .rw .count ≡ 0 → rightIn t store RW x ≡ none
+unfolding rightIn rightAt
+no-right-shown t store x h = rw h
+
+granted-not-none : (b : Body) → granted b ≡ none → ⊥
+granted-not-none b e = let z : _≡_ {A = ℕ} 0 1 = cc in omega arith
+
+-- what meets demand 3 shows the right after the grant
+right-shown : (call : Calls) → Demand3 call
+    → rightIn (tableLeft call (wholeFile ∷ []) emptyTable (replicate 32768 0)) (storeLeft call (wholeFile ∷ []) emptyTable (replicate 32768 0)) RW 0
+    ≡ granted (body 0)
+right-shown call d =
+    let a = d (wholeFile ∷ []) whole-file-fits in
+    a .rights RW 0 (omega arith)
+    ∙ (ap (λ (ns : List ℕ). rightGiven (acceptedOf (wholeFile ∷ []) ns) RW 0 none) (a .same-answers ∙ whole-file-accepted) ∙ granted-by-it)
+
+-- ---- the stand-ins
+
+pub refuses-all-falls : (n : ℕ) → (n ≡ 0 → ⊥) → Demand3 (refusesAll n) → ⊥
+unfolding answered
+refuses-all-falls n h d =
+    h (ap (λ (ns : List ℕ). getD ns 0 0) (d (wholeFile ∷ []) whole-file-fits .same-answers ∙ whole-file-accepted))
+
+pub changes-nothing-falls : (call : Calls) → Demand3 (changesNothing call) → ⊥
+unfolding tableLeft storeLeft emptyTable inPlaces
+changes-nothing-falls call d =
+    granted-not-none (body 0) (sym (right-shown (changesNothing call) d) ∙ no-right-shown emptyTable (replicate 32768 0) 0 refl)
+
+module _ (call : Calls) (d : Demand3 (firstOnly call)) where
+  -- what the grant leaves
+  abbrev first : Left
+  first = firstOnly call wholeFile emptyTable (replicate 32768 0)
+
+  first-shows : rightIn (first .table) (first .store) RW 0 ≡ granted (body 0)
+  unfolding tableLeft storeLeft
+  first-shows = right-shown (firstOnly call) d
+
+  first-accepted : first .answer ≡ 0
+  unfolding answered
+  first-accepted = ap (λ (ns : List ℕ). getD ns 0 1) (d (wholeFile ∷ []) whole-file-fits .same-answers ∙ whole-file-accepted)
+
+  second-ignored : firstOnly call Revoke (first .table) (first .store) ≡ record { answer = 0; table = first .table; store = first .store }
+  unfolding pick
+  second-ignored =
+      rw
+      (ne-eqb (first .table .rw .count) 0 (λ e. granted-not-none (body 0) (sym first-shows ∙ no-right-shown (first .table) (first .store) 0 e)), and-false)
+
+  still-shows : rightIn (tableLeft (firstOnly call) (wholeFile ∷ Revoke ∷ []) emptyTable (replicate 32768 0)) (storeLeft (firstOnly call) (wholeFile ∷ Revoke ∷ []) emptyTable (replicate 32768 0)) RW 0 ≡ granted (body 0)
+  unfolding tableLeft storeLeft
+  still-shows = ap (λ (l : Left). rightIn (l .table) (l .store) RW 0) second-ignored ∙ first-shows
+
+  both-accepted : answered (firstOnly call) (wholeFile ∷ Revoke ∷ []) emptyTable (replicate 32768 0) ≡ 0 ∷ 0 ∷ []
+  unfolding answered
+  both-accepted = ap₂ (λ (n k : ℕ). n ∷ k ∷ []) first-accepted (ap (λ (l : Left). l .answer) second-ignored)
+
+pub first-only-falls : (call : Calls) → Demand3 (firstOnly call) → ⊥
+first-only-falls call d =
+    granted-not-none (body 0)
+    (sym (still-shows call d)
+    ∙ (d (wholeFile ∷ Revoke ∷ []) whole-file-revoke-fits .rights RW 0 (omega arith)
+    ∙ (ap (λ (ns : List ℕ). rightGiven (acceptedOf (wholeFile ∷ Revoke ∷ []) ns) RW 0 none) (both-accepted call d) ∙ revoked-behind-it)))

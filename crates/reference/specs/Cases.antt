@@ -1,0 +1,149 @@
+-- Worked examples: lists of events on a small file, and what the model must make of them, written out from the scope paper's list.
+use Prim.Native.Nat.{ℕ, zero, suc, _+_}
+use mathlib.Core.Path.{_≡_}
+use mathlib.Core.List.{List, [], _∷_, _++_}
+use lib.ListN.{replicate}
+use Rattle.base.specs.Ranges.{toTheEnd}
+use Rattle.numbers.specs.Numbers.{beBytes}
+use Rattle.segments.specs.declared.Right.the-variants as table
+use Rattle.segments.specs.declared.Segment.{Segment}
+use Rattle.segments.specs.Segments.{READ, RW}
+use Rattle.store.specs.Store.{Body}
+use Rattle.reference.specs.Model.{Event, Grant, Return, Recall, Revoke, answers, run, segmentsIn, start}
+
+-- a layout body of 80 bytes: one mirror, one server with one filehandle; bodies with different hints are different
+unfoldable pub body : ℕ → Body
+body hint =
+    beBytes 8 0 ++ beBytes 4 1 ++ beBytes 4 1
+    ++ replicate 16 7 ++ beBytes 4 0 ++ replicate 16 0 ++ beBytes 4 1
+    ++ beBytes 4 4 ++ replicate 4 9 ++ beBytes 4 0 ++ beBytes 4 0
+    ++ beBytes 4 0 ++ beBytes 4 hint
+
+-- a layout4 of 108 bytes with that body
+unfoldable pub grantBytes : ℕ → ℕ → ℕ → ℕ → List ℕ
+grantBytes offset len number hint = beBytes 8 offset ++ beBytes 8 len ++ beBytes 4 number ++ beBytes 4 4 ++ beBytes 4 80 ++ body hint
+
+abbrev pub grantOf : ℕ → ℕ → ℕ → ℕ → Event
+grantOf offset len number hint = Grant (grantBytes offset len number hint)
+
+-- the segment of the bytes first to last, granted or recalled under the body in slot i
+abbrev pub grantedIn : ℕ → ℕ → ℕ → Segment
+grantedIn i first last = record { first = first; last = last; right = table.Granted (record { 0 = i }) }
+
+abbrev pub recalledIn : ℕ → ℕ → ℕ → Segment
+recalledIn i first last = record { first = first; last = last; right = table.Recalled (record { 0 = i }) }
+
+-- events on a file of the bytes 0 to last, the numbers that they are answered, and the segments after them
+pub record Case : Type 0 where
+  pub last : ℕ
+  pub events : List Event
+  pub numbers : List ℕ
+  pub read : List Segment
+  pub rw : List Segment
+
+abbrev pub Holds : Case → Type 0
+Holds c =
+    (answers (c .last) (c .events) start ≡ c .numbers)
+    × (segmentsIn (c .last) (run (c .last) (c .events) start) READ ≡ c .read)
+    × (segmentsIn (c .last) (run (c .last) (c .events) start) RW ≡ c .rw)
+
+abbrev pub AllHold : List Case → Type 0
+AllHold [] = Unit {0}
+AllHold (c ∷ cs) = Holds c × AllHold cs
+
+-- returns in RW of n single bytes, every other byte from x on
+abbrev pub returnsFrom : ℕ → ℕ → List Event
+returnsFrom zero x = []
+returnsFrom (suc n) x = Return x 1 2 ∷ returnsFrom n (x + 2)
+
+abbrev pub cases : List Case
+cases =
+    -- "Grant RW 0..99, return 40..59: segments 0..39 and 60..99."
+    record {
+      last = 120;
+      events = grantOf 0 100 2 0 ∷ Return 40 20 2 ∷ [];
+      numbers = 0 ∷ 0 ∷ [];
+      read = [];
+      rw = grantedIn 0 0 39 ∷ grantedIn 0 60 99 ∷ [];
+    }
+    -- "Then grant 40..59 under the same body: one segment 0..99."
+    ∷ record {
+      last = 120;
+      events = grantOf 0 100 2 0 ∷ Return 40 20 2 ∷ grantOf 40 20 2 0 ∷ [];
+      numbers = 0 ∷ 0 ∷ 0 ∷ [];
+      read = [];
+      rw = grantedIn 0 0 99 ∷ [];
+    }
+    -- "Under another body, with the first still held at 0..39 and 60..99: three segments."
+    ∷ record {
+      last = 120;
+      events = grantOf 0 100 2 0 ∷ Return 40 20 2 ∷ grantOf 40 20 2 1 ∷ [];
+      numbers = 0 ∷ 0 ∷ 0 ∷ [];
+      read = [];
+      rw = grantedIn 0 0 39 ∷ grantedIn 1 40 59 ∷ grantedIn 0 60 99 ∷ [];
+    }
+    -- "Recall RW 10..19 of 0..99: three segments"
+    ∷ record {
+      last = 120;
+      events = grantOf 0 100 2 0 ∷ Recall 10 10 2 ∷ [];
+      numbers = 0 ∷ 0 ∷ [];
+      read = [];
+      rw = grantedIn 0 0 9 ∷ recalledIn 0 10 19 ∷ grantedIn 0 20 99 ∷ [];
+    }
+    -- "A recall on an empty table is 25; a return there is accepted."
+    ∷ record {
+      last = 120;
+      events = Recall 0 toTheEnd 3 ∷ Return 0 toTheEnd 3 ∷ [];
+      numbers = 25 ∷ 0 ∷ [];
+      read = [];
+      rw = [];
+    }
+    -- a recall in READ leaves what is held in RW
+    ∷ record {
+      last = 120;
+      events = grantOf 0 100 2 0 ∷ grantOf 0 100 1 0 ∷ Recall 10 10 1 ∷ [];
+      numbers = 0 ∷ 0 ∷ 0 ∷ [];
+      read = grantedIn 0 0 9 ∷ recalledIn 0 10 19 ∷ grantedIn 0 20 99 ∷ [];
+      rw = grantedIn 0 0 99 ∷ [];
+    }
+    -- a byte held under another body is 21, a recalled one 22, and before either the range is judged, then the iomode
+    ∷ record {
+      last = 120;
+      events = grantOf 0 100 2 0 ∷ Recall 10 10 2 ∷ grantOf 15 10 2 1 ∷ grantOf 15 10 2 0 ∷ Return 0 0 9 ∷ Return 0 1 9 ∷ [];
+      numbers = 0 ∷ 0 ∷ 21 ∷ 22 ∷ 5 ∷ 3 ∷ [];
+      read = [];
+      rw = grantedIn 0 0 9 ∷ recalledIn 0 10 19 ∷ grantedIn 0 20 99 ∷ [];
+    }
+    -- "8 bodies held: a ninth, on bytes not held, is 24; after one is wholly returned it is accepted in that slot."
+    ∷ record {
+      last = 8;
+      events = grantOf 0 1 2 0 ∷ grantOf 1 1 2 1 ∷ grantOf 2 1 2 2 ∷ grantOf 3 1 2 3 ∷ grantOf 4 1 2 4 ∷ grantOf 5 1 2 5 ∷ grantOf 6 1 2 6 ∷ grantOf 7 1 2 7 ∷ grantOf 8 1 2 8 ∷ Return 3 1 2 ∷ grantOf 8 1 2 8 ∷ [];
+      numbers = 0 ∷ 0 ∷ 0 ∷ 0 ∷ 0 ∷ 0 ∷ 0 ∷ 0 ∷ 24 ∷ 0 ∷ 0 ∷ [];
+      read = [];
+      rw = grantedIn 0 0 0 ∷ grantedIn 1 1 1 ∷ grantedIn 2 2 2 ∷ grantedIn 4 4 4 ∷ grantedIn 5 5 5 ∷ grantedIn 6 6 6 ∷ grantedIn 7 7 7 ∷ grantedIn 3 8 8 ∷ [];
+    }
+    -- "A grant whose body is on the shelf uses that slot; otherwise the lowest unnamed one."
+    ∷ record {
+      last = 8;
+      events = grantOf 0 1 2 0 ∷ grantOf 1 1 1 0 ∷ grantOf 2 1 2 1 ∷ [];
+      numbers = 0 ∷ 0 ∷ 0 ∷ [];
+      read = grantedIn 0 1 1 ∷ [];
+      rw = grantedIn 0 0 0 ∷ grantedIn 1 2 2 ∷ [];
+    }
+    -- a revoke takes every right away
+    ∷ record {
+      last = 120;
+      events = grantOf 0 100 2 0 ∷ grantOf 0 100 1 1 ∷ Revoke ∷ [];
+      numbers = 0 ∷ 0 ∷ 0 ∷ [];
+      read = [];
+      rw = [];
+    }
+    -- "32 segments in an iomode and a return inside one, touching neither of its ends: 23. The same return of the whole file: accepted."
+    ∷ record {
+      last = 64;
+      events = grantOf 0 65 2 0 ∷ (returnsFrom 31 1 ++ (Return 63 1 2 ∷ Return 0 toTheEnd 2 ∷ []));
+      numbers = replicate 32 0 ++ (23 ∷ 0 ∷ []);
+      read = [];
+      rw = [];
+    }
+    ∷ []

@@ -1,0 +1,21 @@
+-- Stand-ins for the calls: "One that refuses everything, or accepts events and changes nothing, or obeys only the first, falls to demand 3."
+use Prim.Native.Nat.{ℕ}
+use mathlib.Core.Bool.{_&&_}
+use lib.Dec.{eqb}
+use Rattle.base.specs.Answer.{pick}
+use Rattle.reference.specs.Claim.{Calls}
+
+-- refuses every event with the number n
+abbrev pub refusesAll : ℕ → Calls
+refusesAll n e t store = record { answer = n; table = t; store = store }
+
+-- answers as the calls do, and changes nothing
+abbrev pub changesNothing : Calls → Calls
+changesNothing call e t store = record { answer = call e t store .answer; table = t; store = store }
+
+-- obeys while no byte is held; afterwards it accepts every event and changes nothing
+abbrev pub firstOnly : Calls → Calls
+firstOnly call e t store =
+    pick (eqb (t .read .count) 0 && eqb (t .rw .count) 0)
+    (call e t store)
+    (record { answer = 0; table = t; store = store })
