@@ -1,4 +1,4 @@
-// The four events. Each is lent the first bytes of the store.
+// The four events. Each borrows the first bytes of the store.
 use crate::line::put_refused;
 use crate::line::put_text;
 use crate::state::State;
@@ -75,20 +75,23 @@ pub(crate) fn put_event(
     state: State,
     store: &mut [u8],
 ) -> Told {
-    let lent = state.lent;
-    if store.len() < lent {
+    let borrowed = state.borrowed;
+    if store.len() < borrowed {
         return Told { state, length: 0 };
     }
     if !has_form(event, payload) {
         return Told { state, length: 0 };
     }
     let table = state.table;
-    let o = call(event, table, &mut store[..lent], payload);
+    let o = call(event, table, &mut store[..borrowed], payload);
     let verdict = o.verdict;
     let left = o.table;
     let n = put_name(line, event);
     let m = put_verdict(line, n, verdict);
-    let after = State { table: left, lent };
+    let after = State {
+        table: left,
+        borrowed,
+    };
     Told {
         state: after,
         length: m,

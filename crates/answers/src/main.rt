@@ -8,10 +8,10 @@ mod line;
 mod record;
 mod report_read_case;
 mod report_write_case;
-mod shelf_case;
 mod sixteen;
 mod spoil_case;
 mod state;
+mod store_case;
 mod table_case;
 
 use event_case::Kind;
@@ -46,7 +46,7 @@ fn put_other_case(
 ) -> usize {
     match kind {
         72 => table_case::put_table(line, payload, table),
-        73 => shelf_case::put_shelf(line, payload, store),
+        73 => store_case::put_store(line, payload, store),
         74 => spoil_case::set_byte(line, payload, store),
         _ => put_wire_case(line, kind, payload),
     }
@@ -60,7 +60,7 @@ fn put_case(line: &mut [u8], kind: u32, payload: &[u8], state: State, store: &mu
     match kind {
         75 => spoil_case::set_segment(line, payload, state),
         76 => spoil_case::reset(line, payload, state, store),
-        77 => spoil_case::lend(line, payload, state),
+        77 => spoil_case::set_borrowed(line, payload, state),
         _ => {
             let table = state.table;
             let n = put_other_case(line, kind, payload, table, store);

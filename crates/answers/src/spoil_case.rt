@@ -120,7 +120,7 @@ pub(crate) fn set_segment(line: &mut [u8], payload: &[u8], state: State) -> Told
     let n = put_text(line, 0, b"set-segment done");
     let after = State {
         table,
-        lent: state.lent,
+        borrowed: state.borrowed,
     };
     Told {
         state: after,
@@ -141,17 +141,17 @@ pub(crate) fn reset(line: &mut [u8], payload: &[u8], state: State, store: &mut [
     }
 }
 
-pub(crate) fn lend(line: &mut [u8], payload: &[u8], state: State) -> Told {
+pub(crate) fn set_borrowed(line: &mut [u8], payload: &[u8], state: State) -> Told {
     if payload.len() != 4 {
         return Told { state, length: 0 };
     }
-    let lent = numbers::le4(payload, 0) as usize;
-    if 32768 < lent {
+    let borrowed = numbers::le4(payload, 0) as usize;
+    if 32768 < borrowed {
         return Told { state, length: 0 };
     }
     let table = state.table;
     let n = put_text(line, 0, b"lend done");
-    let after = State { table, lent };
+    let after = State { table, borrowed };
     Told {
         state: after,
         length: n,

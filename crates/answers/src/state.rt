@@ -3,8 +3,8 @@ use segments::Table;
 
 pub struct State {
     pub table: Table,
-    // How many bytes of the store a call is lent.
-    pub lent: usize,
+    // How many bytes of the store a call borrows.
+    pub borrowed: usize,
 }
 
 // What a case leaves, and the length of its line; 0 where there is no such case.
@@ -16,6 +16,6 @@ pub struct Told {
 pub(crate) fn start() -> State {
     State {
         table: segments::empty_table(),
-        lent: 32768,
+        borrowed: 32768,
     }
 }

@@ -1,4 +1,4 @@
--- `answers::event_case::put_event` is safe and ends. What is lent lies within the store.
+-- `answers::event_case::put_event` is safe and ends. What is borrowed lies within the store.
 use borrow.Author.Needs.{needs}
 use lib.ListN.{length-take}
 use native.Mathlib.Omega.{arith}

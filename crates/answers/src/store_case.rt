@@ -29,7 +29,7 @@ fn put_slot(line: &mut [u8], at: usize, store: &[u8], i: u32) -> usize {
     put_field(line, n, b":", checksum(slot))
 }
 
-pub(crate) fn put_shelf(line: &mut [u8], payload: &[u8], store: &[u8]) -> usize {
+pub(crate) fn put_store(line: &mut [u8], payload: &[u8], store: &[u8]) -> usize {
     if payload.len() != 0 {
         return 0;
     }

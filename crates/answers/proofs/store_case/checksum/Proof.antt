@@ -1,9 +1,9 @@
--- `answers::shelf_case::checksum` is safe and ends. The sum stays below its modulus, and each turn leaves fewer bytes.
+-- `answers::store_case::checksum` is safe and ends. The sum stays below its modulus, and each turn leaves fewer bytes.
 use Prim.Native.Nat.{_-_, _<_}
 use borrow.Author.Needs.{needs}
 use lib.ListN.{length}
-use Rattle.answers.proofs.shelf_case.checksum.Statement.{statement}
-use Rattle.answers.proofs.shelf_case.checksum.Tie as tie
+use Rattle.answers.proofs.store_case.checksum.Statement.{statement}
+use Rattle.answers.proofs.store_case.checksum.Tie as tie
 
 abbrev Inv-loop : tie.InvT-loop
 Inv-loop s c₀ i₀ c i = c < 4294967291

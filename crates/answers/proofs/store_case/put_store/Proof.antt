@@ -1,10 +1,10 @@
--- `answers::shelf_case::put_shelf` is safe and ends. The line keeps its length, and each turn leaves fewer of the eight slots.
+-- `answers::store_case::put_store` is safe and ends. The line keeps its length, and each turn leaves fewer of the eight slots.
 use Prim.Native.Nat.{_-_}
 use borrow.Author.Needs.{needs}
 use lib.ListN.{length}
 use mathlib.Core.Path.{_≡_}
-use Rattle.answers.proofs.shelf_case.put_shelf.Statement.{statement}
-use Rattle.answers.proofs.shelf_case.put_shelf.Tie as tie
+use Rattle.answers.proofs.store_case.put_store.Statement.{statement}
+use Rattle.answers.proofs.store_case.put_store.Tie as tie
 
 abbrev Inv-loop : tie.InvT-loop
 Inv-loop line₀ payload store n₀ i₀ line n i = length line ≡ length line₀
@@ -42,8 +42,8 @@ same-length c = search needs
 returns-2 : tie.Need-returns-2 Inv-loop μ-loop
 returns-2 c = search needs
 
-pub put-shelf-spec : {M : Type 1} → statement M
-put-shelf-spec =
+pub put-store-spec : {M : Type 1} → statement M
+put-store-spec =
     tie.close
     (tie.spec
     Inv-loop
