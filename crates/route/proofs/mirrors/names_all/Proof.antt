@@ -1,0 +1,13 @@
+-- `route::mirrors::names_all` meets its contract.
+use borrow.Author.Tests.{not-false, not-true}
+use Rattle.route.proofs.mirrors.names_all.Statement.{statement}
+use Rattle.route.proofs.mirrors.names_all.Tie as tie
+
+returns : tie.Need-returns
+returns c = rw (not-true (c .before .args .write) (c .if1 .taken))
+
+returns-2 : tie.Need-returns-2
+returns-2 c = rw (not-false (c .before .args .write) (c .if1 .left))
+
+pub names-all-spec : {M : Type 1} → statement M
+names-all-spec = tie.close (tie.spec returns returns-2)

@@ -1,0 +1,21 @@
+-- `route::rights::why_grant` meets its contract.
+use Rattle.route.specs.Answers.{whyGrant}
+use borrow.Author.Needs.{needs}
+use mathlib.Core.Path.{sym, ap}
+use Rattle.route.proofs.rights.why_grant.Statement.{statement}
+use Rattle.route.proofs.rights.why_grant.Tie as tie
+
+enum-known-r : tie.Need-enum-known-r
+enum-known-r c = search needs
+
+enum-told : tie.Need-enum-told
+enum-told c = search needs
+
+returns : tie.Need-returns
+returns c = sym (ap whyGrant (c .before .r .given .1))
+
+returns-2 : tie.Need-returns-2
+returns-2 c = search needs
+
+pub why-grant-spec : {M : Type 1} → statement M
+why-grant-spec = tie.close (tie.spec enum-known-r enum-told returns returns-2)

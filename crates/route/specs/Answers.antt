@@ -1,0 +1,36 @@
+-- What the answers of the route's functions say.
+use Prim.Native.Nat.{ℕ}
+use mathlib.Core.List.{List}
+use Rattle.base.specs.Answer.{Answer, accepted, refused}
+use Rattle.base.specs.Refusals.{numberOf}
+use Rattle.base.specs.declared.refusal.Refusal.{Refusal}
+use Rattle.base.specs.declared.refusal.Refusal.the-variants.{RightMissing}
+use Rattle.route.specs.Routes as routes
+use Rattle.route.specs.declared.piece.Piece.{Piece}
+use Rattle.route.specs.declared.piece.Located.{Located}
+use Rattle.route.specs.declared.piece.Located.the-variants as located
+use Rattle.route.specs.declared.rights.ReadGrant.{ReadGrant}
+use Rattle.route.specs.declared.rights.ReadGrant.the-variants as grant
+use Rattle.route.specs.declared.rights.ServingAnswer.{ServingAnswer}
+use Rattle.route.specs.declared.rights.ServingAnswer.the-variants as serving
+
+abbrev pub answerOfGrant : ReadGrant → Answer routes.Grant
+answerOfGrant (grant.Value g) = accepted (record { slot = g .slot .0; last = g .last })
+answerOfGrant (grant.Refused e) = refused (numberOf e)
+
+abbrev pub whyGrant : ReadGrant → Refusal
+whyGrant (grant.Value g) = RightMissing
+whyGrant (grant.Refused e) = e
+
+abbrev pub servingAnswer : ServingAnswer → List ℕ → Answer routes.Serving
+servingAnswer (serving.Value m g s) starts =
+    accepted (record { iomode = m; grant = record { slot = g .slot .0; last = g .last }; layout = record { summary = s; starts = starts } })
+servingAnswer (serving.Refused e) starts = refused (numberOf e)
+
+abbrev pub whyServing : ServingAnswer → Refusal
+whyServing (serving.Value m g s) = RightMissing
+whyServing (serving.Refused e) = e
+
+abbrev pub answerOfLocated : Located → Answer Piece
+answerOfLocated (located.At p) = accepted p
+answerOfLocated (located.Refused e) = refused (numberOf e)

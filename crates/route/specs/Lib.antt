@@ -1,0 +1,4 @@
+pub mod Stripes
+pub mod Mirrors
+pub mod Routes
+pub mod Answers

@@ -1,0 +1,19 @@
+-- Stripes: "Stripe number = (offset div unit) mod servers; with one server it is 0." Counted from the file's start, at full width.
+use Prim.Native.Nat.{ℕ, _+_, _-_, _/_, _%_, min}
+use lib.Dec.{leb}
+use Rattle.base.specs.Answer.{pick}
+
+-- which unit of the file a byte is in, and how many bytes of it are left from there on
+unfoldable pub unitIndex : ℕ → ℕ → ℕ
+unitIndex unit offset = offset / unit
+
+unfoldable pub unitRest : ℕ → ℕ → ℕ
+unitRest unit offset = unit - offset % unit
+
+unfoldable pub stripeOf : ℕ → ℕ → ℕ → ℕ
+stripeOf unit servers offset = pick (leb servers 1) 0 (unitIndex unit offset % servers)
+
+-- "The piece answered is the shortest of the request, the rest of that segment, and, with more than one server, the rest of the stripe unit."
+unfoldable pub pieceLength : ℕ → ℕ → ℕ → ℕ → ℕ → ℕ
+pieceLength unit servers last offset len =
+    pick (leb servers 1) (min len (last - offset + 1)) (min (min len (last - offset + 1)) (unitRest unit offset))
