@@ -1,12 +1,17 @@
--- What the claims say of a place in a layout body.
-use Prim.Native.Nat.{ℕ, _+_, _<_}
+-- What the claims say of a place in a layout body, and of a piece of an I/O in a table.
+use Prim.Native.Nat.{ℕ, _+_, _-_, _≤_, _<_}
 use mathlib.Core.Path.{_≡_}
 use mathlib.Core.List.{List}
-use lib.ListN.{getD}
+use mathlib.Core.Bool.{Bool, true}
+use lib.ListN.{getD, length}
 use Rattle.numbers.specs.Numbers.{beValue, bytesFrom}
 use Rattle.xdr.specs.Res.{ok}
 use Rattle.server.specs.Servers.{serverAt}
 use Rattle.server.specs.declared.item.Server.{Server}
+use Rattle.segments.specs.declared.Right.the-variants.{Granted}
+use Rattle.segments.specs.declared.Table.{Table}
+use Rattle.segments.specs.Segments.{Mode, RW, actsOn, blank, listIn}
+use Rattle.route.specs.declared.piece.Piece.{Piece}
 
 -- a data server is read at this place, and its fields stand where RFC 8435 has them
 pub record ServerStands (s : List ℕ) (at : ℕ) : Type 0 where
@@ -17,3 +22,14 @@ pub record ServerStands (s : List ℕ) (at : ℕ) : Type 0 where
   pub efficiency : server .efficiency ≡ beValue (bytesFrom 4 s (at + 16))
   pub stateid : server .stateid ≡ at + 20
   pub handles : server .handles ≡ beValue (bytesFrom 4 s (at + 36))
+
+-- a piece lies in a granted segment of an iomode that it names; for a write that is RW
+pub record PieceStands (write : Bool) (t : Table) (offset : ℕ) (p : Piece) : Type 0 where
+  pub mode : Mode
+  pub named : actsOn (p .iomode) mode ≡ true
+  pub place : ℕ
+  pub there : place < length (listIn t mode)
+  pub first : getD (listIn t mode) place blank .first ≤ offset
+  pub last : offset + p .length - 1 ≤ getD (listIn t mode) place blank .last
+  pub right : getD (listIn t mode) place blank .right ≡ Granted (p .slot)
+  pub in-rw : write ≡ true → mode ≡ RW

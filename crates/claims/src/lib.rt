@@ -1,9 +1,9 @@
 // The theorems that the documents cite, each as the `ensures` of an empty function, so that it stands before a reader's eyes and the gate fails if
 // it goes. A statement needs only the definitions that it names.
-ghost use Prim.Native.Nat.{ℕ, _+_, _*_, _^_, _<_, _≤_};
+ghost use Prim.Native.Nat.{ℕ, _+_, _-_, _*_, _/_, _^_, _<_, _≤_};
 ghost use mathlib.Core.Path.{_≡_};
 ghost use mathlib.Core.Logic.{_⊎_};
-ghost use mathlib.Core.Bool.{true};
+ghost use mathlib.Core.Bool.{Bool, true};
 ghost use mathlib.Core.List.{List, [], map};
 ghost use lib.ListN.{getD, length, replicate, take};
 ghost use Rattle.base.specs.Answer.{accepted, refused};
@@ -19,14 +19,17 @@ ghost use Rattle.report_write.specs.Places.{Each, HeadFits, RecordFits, placed,
 ghost use Rattle.report_write.specs.Writing.{ErrorRecord, reportsWritten};
 ghost use Rattle.base.specs.Ranges.{toTheEnd};
 ghost use Rattle.segments.specs.declared.Table.{Table};
-ghost use Rattle.segments.specs.Segments.{emptyTable, listOf};
+ghost use Rattle.segments.specs.Segments.{RW, emptyTable, listIn, listOf, rightAt};
+ghost use Rattle.segments.specs.declared.Right.the-variants.{Granted};
+ghost use Rattle.route.specs.declared.piece.Piece.{Piece};
+ghost use Rattle.route.specs.Routes.{layoutIn, routed};
 ghost use Rattle.reference.specs.Claim.{AllFit, Calls, Demand3, storeLeft, tableLeft};
 ghost use Rattle.reference.specs.Cases.{AllHold, cases};
 ghost use Rattle.reference.specs.StandIns.{changesNothing, firstOnly, refusesAll};
 ghost use Rattle.reference.specs.Sound.{sound};
 ghost use Rattle.reference.specs.Model.{Event, Recall, Return, Revoke};
 ghost use Rattle.events.specs.Events.{InFile, called};
-ghost use Rattle.claims.specs.Statements.{ServerStands};
+ghost use Rattle.claims.specs.Statements.{PieceStands, ServerStands};
 
 // A number that was written in k bytes is read back, for every width k.
 pub fn numbers_written_are_read()
@@ -120,4 +123,30 @@ pub fn whole_file_events_always_fit()
         → (called (Return 0 toTheEnd number) t store .answer ≡ 23 → ⊥)
         × (called (Recall 0 toTheEnd number) t store .answer ≡ 23 → ⊥)
         × (called Revoke t store .answer ≡ 23 → ⊥)) ⌝ }
+{}
+
+// An answered piece lies in its request and, with more than one server, in one stripe unit.
+pub fn pieces_lie_in_request_and_unit()
+    ensures { λ r. ⌜ ((write : Bool) (t : Table) (store : List ℕ) (offset len : ℕ) (p : Piece) → routed write t store offset len ≡ accepted p
+        → (1 ≤ p .length) × (p .length ≤ len) × (p .offset ≡ offset)
+        × ((l : Layout) → layoutIn store (p .slot .0) ≡ accepted l → 1 < l .summary .servers
+        → offset / l .summary .unit ≡ (offset + p .length - 1) / l .summary .unit)) ⌝ }
+{}
+
+// And in one granted segment of the iomode that it names.
+pub fn pieces_lie_in_granted_segments()
+    ensures { λ r. ⌜ ((write : Bool) (t : Table) (store : List ℕ) (offset len : ℕ) (p : Piece) → routed write t store offset len ≡ accepted p
+        → PieceStands write t offset p) ⌝ }
+{}
+
+// No write is answered for a byte that is recalled or not held.
+pub fn writes_need_a_grant()
+    ensures { λ r. ⌜ ((t : Table) (store : List ℕ) (offset len : ℕ) (p : Piece) → routed true t store offset len ≡ accepted p
+        → rightAt (listIn t RW) offset ≡ Granted (p .slot)) ⌝ }
+{}
+
+// An I/O request is refused with 20, 5 or 17 and nothing else: the body of a granted segment is always read.
+pub fn requests_refuse_as_listed()
+    ensures { λ r. ⌜ ((write : Bool) (t : Table) (store : List ℕ) (offset len n : ℕ) → routed write t store offset len ≡ refused n
+        → (n ≡ 20) ⊎ (n ≡ 5) ⊎ (n ≡ 17)) ⌝ }
 {}
