@@ -5,6 +5,7 @@
 use crate::binding::BindRequest;
 use crate::event::Event;
 use crate::fields::Fields;
+use crate::io_request::IoRequest;
 use crate::report::{DeviceError, ReportHead, REPORT_LIMIT};
 use crate::table_cases::{encode_table_case, parse_table_case, TableCase};
 
@@ -214,6 +215,11 @@ impl CaseFileWriter {
     /// Appends the record of an event.
     pub fn event(&mut self, event: Event) {
         self.table(&TableCase::Event(event));
+    }
+
+    /// Appends the record of an I/O request.
+    pub fn locate(&mut self, request: IoRequest) {
+        self.table(&TableCase::Locate(request));
     }
 
     /// Appends bytes that are no record.

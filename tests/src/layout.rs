@@ -16,7 +16,11 @@ pub const FILEHANDLE_LENGTH_LIMIT: u32 = 128;
 /// "user and group of 0 to 64 bytes, content not judged"
 pub const OWNER_LENGTH_LIMIT: u32 = 64;
 /// "Flags are bits 1 .. 2 .. 4 .. 8"
-pub const KNOWN_FLAGS: u32 = 1 | 2 | 4 | 8;
+pub const KNOWN_FLAGS: u32 = 1 | 2 | NO_READ_IO | WRITE_ONE_MIRROR;
+/// FF_FLAGS_NO_READ_IO: "no reads on a read-write layout"
+pub const NO_READ_IO: u32 = 4;
+/// FF_FLAGS_WRITE_ONE_MIRROR: "write one mirror"
+pub const WRITE_ONE_MIRROR: u32 = 8;
 /// One place for each mirror and stripe that the limits allow.
 pub const START_PLACES: usize = (MIRROR_LIMIT * SERVER_LIMIT) as usize;
 

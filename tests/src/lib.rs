@@ -1,5 +1,5 @@
-//! An independent implementation of the wire part and the segment table of a
-//! pNFS flexible file client core: the other side of a differential test.
+//! An independent implementation of a pNFS flexible file client core, from the
+//! wire to where an I/O goes: the other side of a differential test.
 //!
 //! It is written from the scope paper ("01" in the comments) and RFC 8435,
 //! never from the sources under `crates/`. Where both sides print the same
@@ -19,11 +19,13 @@ pub mod event;
 pub mod events;
 pub mod fields;
 pub mod generate;
+pub mod io_request;
 pub mod iomode;
 pub mod layout;
 pub mod layout4;
 pub mod ledger;
 pub mod ledger_slots;
+pub mod locate;
 pub mod range;
 pub mod refusal;
 pub mod report;

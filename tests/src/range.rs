@@ -34,6 +34,16 @@ pub fn check_range(offset: u64, length: u64) -> Result<(), Refusal> {
     }
 }
 
+/// 01: "An I/O request has no such special length: length above 0 and offset +
+/// length at most 2^64 - 1, always." So no request reaches the last byte.
+pub fn check_io_range(offset: u64, length: u64) -> Result<(), Refusal> {
+    if length > 0 && offset.checked_add(length).is_some() {
+        Ok(())
+    } else {
+        Err(Refusal::BadRange)
+    }
+}
+
 #[cfg(test)]
 mod tests {
     use super::*;
@@ -78,5 +88,21 @@ mod tests {
         assert_eq!(check_range(MAX - 1, 2), Err(Refusal::BadRange));
         assert_eq!(check_range(1 << 63, 1 << 63), Err(Refusal::BadRange));
         assert_eq!(check_range(1 << 63, (1 << 63) - 1), Ok(()));
+    }
+
+    #[test]
+    fn no_length_of_a_request_is_special() {
+        for (offset, longest) in [(0, MAX), (1, MAX - 1), (1 << 63, (1 << 63) - 1), (MAX - 1, 1)] {
+            assert_eq!(check_io_range(offset, 0), Err(Refusal::BadRange));
+            assert_eq!(check_io_range(offset, 1), Ok(()));
+            assert_eq!(check_io_range(offset, longest), Ok(()));
+            if longest < MAX {
+                assert_eq!(check_io_range(offset, longest + 1), Err(Refusal::BadRange));
+                assert_eq!(check_io_range(offset, MAX), Err(Refusal::BadRange));
+            }
+        }
+        for length in [0, 1, 2, MAX] {
+            assert_eq!(check_io_range(MAX, length), Err(Refusal::BadRange));
+        }
     }
 }

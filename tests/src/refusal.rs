@@ -1,4 +1,4 @@
-//! The refusal numbers of 01 that the wire part and the segment table give.
+//! The refusal numbers of 01.
 
 /// Why an input is refused; the discriminant is the number in 01's table
 /// "Refusal numbers", and each comment is that table's condition.
@@ -40,6 +40,8 @@ pub enum Refusal {
     StateidNotAnonymous = 15,
     /// "mirror or stripe number beyond the layout"
     BeyondLayout = 16,
+    /// "the first byte of an I/O request lacks the right"
+    RightLacking = 17,
     /// "table or shelf is unsound"
     Unsound = 20,
     /// "a byte of the grant is held in that iomode under another body"
@@ -75,6 +77,7 @@ mod tests {
         assert_eq!(Refusal::BytesRunOut.number(), 1);
         assert_eq!(Refusal::OutsideLimit.number(), 8);
         assert_eq!(Refusal::BeyondLayout.number(), 16);
+        assert_eq!(Refusal::RightLacking.number(), 17);
         assert_eq!(Refusal::Unsound.number(), 20);
         assert_eq!(Refusal::HeldUnderAnotherBody.number(), 21);
         assert_eq!(Refusal::Recalled.number(), 22);

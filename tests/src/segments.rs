@@ -48,6 +48,10 @@ impl Segment {
         *self == Segment::default()
     }
 
+    pub fn contains(&self, byte: u64) -> bool {
+        self.first <= byte && byte <= self.last
+    }
+
     /// Whether some byte is in both.
     pub fn meets(&self, range: ByteRange) -> bool {
         self.first <= range.last && range.first <= self.last

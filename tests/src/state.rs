@@ -3,7 +3,9 @@
 
 use crate::event::Event;
 use crate::events::apply_event;
+use crate::io_request::IoRequest;
 use crate::iomode::Iomode;
+use crate::locate::{locate, Location};
 use crate::refusal::Refusal;
 use crate::segments::Segment;
 use crate::soundness::check_sound;
@@ -29,6 +31,11 @@ impl State {
     /// Puts an event to the table and the part of the store that is lent.
     pub fn apply(&mut self, event: &Event) -> Result<(), Refusal> {
         apply_event(&mut self.table, &mut self.store[..self.lent], event)
+    }
+
+    /// Where an I/O goes, by the table and the part of the store that is lent.
+    pub fn locate(&self, request: &IoRequest) -> Result<Location, Refusal> {
+        locate(&self.table, &self.store[..self.lent], request)
     }
 
     /// Whether the next call will find a sound table and store.

@@ -2,6 +2,7 @@
 
 use crate::event::{Event, RangeNumbers};
 use crate::fields::Fields;
+use crate::io_request::{Direction, IoRequest};
 use crate::iomode::Iomode;
 use crate::segments::{Right, Segment};
 use crate::store::STORE_LENGTH;
@@ -17,6 +18,8 @@ pub mod kind {
     pub const RECALL: u16 = 4;
     pub const REVOKE: u16 = 5;
     pub const RETURN: u16 = 9;
+    pub const READ_AT: u16 = 70;
+    pub const WRITE_AT: u16 = 71;
     pub const SHOW_TABLE: u16 = 72;
     pub const SHOW_STORE: u16 = 73;
     pub const SET_BYTE: u16 = 74;
@@ -29,6 +32,7 @@ pub mod kind {
 #[derive(Clone, Debug, PartialEq, Eq)]
 pub enum TableCase {
     Event(Event),
+    Locate(IoRequest),
     ShowTable,
     ShowStore,
     SetByte { place: usize, value: u8 },
@@ -47,6 +51,8 @@ pub fn parse_table_case(kind: u16, payload: &[u8]) -> Option<TableCase> {
         kind::RETURN => TableCase::Event(Event::Return(parse_numbers(&mut fields)?)),
         kind::RECALL => TableCase::Event(Event::Recall(parse_numbers(&mut fields)?)),
         kind::REVOKE => TableCase::Event(Event::Revoke),
+        kind::READ_AT => TableCase::Locate(parse_request(&mut fields, Direction::Read)?),
+        kind::WRITE_AT => TableCase::Locate(parse_request(&mut fields, Direction::Write)?),
         kind::SHOW_TABLE => TableCase::ShowTable,
         kind::SHOW_STORE => TableCase::ShowStore,
         kind::SET_BYTE => parse_set_byte(&mut fields)?,
@@ -61,6 +67,11 @@ pub fn parse_table_case(kind: u16, payload: &[u8]) -> Option<TableCase> {
 /// "offset (LE8), length (LE8), iomode (LE4)"
 fn parse_numbers(fields: &mut Fields) -> Option<RangeNumbers> {
     Some(RangeNumbers { offset: fields.u64()?, length: fields.u64()?, iomode: fields.u32()? })
+}
+
+/// "offset (LE8), length (LE8)"
+fn parse_request(fields: &mut Fields, direction: Direction) -> Option<IoRequest> {
+    Some(IoRequest { direction, offset: fields.u64()?, length: fields.u64()? })
 }
 
 /// "place (LE4, below 32,768), value (1)"
@@ -95,6 +106,7 @@ pub fn encode_table_case(case: &TableCase) -> (u16, Vec<u8>) {
         TableCase::Event(Event::Return(numbers)) => (kind::RETURN, encode_numbers(numbers)),
         TableCase::Event(Event::Recall(numbers)) => (kind::RECALL, encode_numbers(numbers)),
         TableCase::Event(Event::Revoke) => (kind::REVOKE, Vec::new()),
+        TableCase::Locate(request) => (kind_of(request.direction), encode_request(request)),
         TableCase::ShowTable => (kind::SHOW_TABLE, Vec::new()),
         TableCase::ShowStore => (kind::SHOW_STORE, Vec::new()),
         TableCase::SetByte { place, value } => {
@@ -111,6 +123,17 @@ pub fn encode_table_case(case: &TableCase) -> (u16, Vec<u8>) {
 fn encode_numbers(numbers: &RangeNumbers) -> Vec<u8> {
     let RangeNumbers { offset, length, iomode } = numbers;
     [&offset.to_le_bytes()[..], &length.to_le_bytes(), &iomode.to_le_bytes()].concat()
+}
+
+fn kind_of(direction: Direction) -> u16 {
+    match direction {
+        Direction::Read => kind::READ_AT,
+        Direction::Write => kind::WRITE_AT,
+    }
+}
+
+fn encode_request(request: &IoRequest) -> Vec<u8> {
+    [request.offset.to_le_bytes(), request.length.to_le_bytes()].concat()
 }
 
 fn encode_segment(iomode: Iomode, place: usize, segment: &Segment) -> Vec<u8> {
@@ -139,8 +162,8 @@ mod tests {
 
     #[test]
     fn payloads_have_their_exact_length() {
-        let lengths = [(4, 20), (5, 0), (9, 20), (72, 0), (73, 0), (74, 5), (76, 0), (77, 4)];
-        for (kind, length) in lengths {
+        let lengths = [(4, 20), (5, 0), (9, 20), (70, 16), (71, 16), (72, 0), (73, 0), (74, 5)];
+        for (kind, length) in lengths.into_iter().chain([(76, 0), (77, 4)]) {
             for other in 0..40 {
                 assert_eq!(has_form(kind, &vec![0; other]), other == length, "{kind} {other}");
             }
@@ -191,6 +214,8 @@ mod tests {
             TableCase::Event(Event::Return(numbers)),
             TableCase::Event(Event::Recall(numbers)),
             TableCase::Event(Event::Revoke),
+            TableCase::Locate(IoRequest::read(1 << 44, 3)),
+            TableCase::Locate(IoRequest::write(u64::MAX, 0)),
             TableCase::ShowTable,
             TableCase::ShowStore,
             TableCase::SetByte { place: 32_767, value: 200 },

@@ -1,7 +1,9 @@
 //! The lines of the cases that concern the table and its store.
 
 use crate::event::Event;
+use crate::io_request::IoRequest;
 use crate::iomode::Iomode;
+use crate::locate::Location;
 use crate::segments::{Right, Segment};
 use crate::state::State;
 use crate::store::{slots, stated_length};
@@ -16,6 +18,7 @@ const CHECKSUM_MODULUS: u64 = 4_294_967_291;
 pub fn table_case_line(state: &mut State, case: &TableCase) -> String {
     match case {
         TableCase::Event(event) => event_line(state, event),
+        TableCase::Locate(request) => location_line(state, request),
         TableCase::ShowTable => table_line(&state.table),
         TableCase::ShowStore => store_line(&state.store),
         TableCase::SetByte { place, value } => {
@@ -42,6 +45,21 @@ fn event_line(state: &mut State, event: &Event) -> String {
         Ok(()) => format!("{} accepted", event.name()),
         Err(refusal) => format!("{} refused {}", event.name(), refusal.number()),
     }
+}
+
+fn location_line(state: &State, request: &IoRequest) -> String {
+    let name = request.direction.name();
+    match state.locate(request) {
+        Ok(location) => format!("{name} {}", location_text(&location)),
+        Err(refusal) => format!("{name} refused {}", refusal.number()),
+    }
+}
+
+/// "B is the set of mirrors as a number, bit 0 being mirror 0"
+fn location_text(location: &Location) -> String {
+    let Location { iomode, slot, stripe, offset, length, mirrors } = location;
+    let place = format!("iomode={} slot={slot} stripe={stripe}", iomode.number());
+    format!("{place} offset={offset} length={length} mirrors={mirrors}")
 }
 
 fn table_line(table: &Table) -> String {
@@ -104,6 +122,28 @@ mod tests {
         assert_eq!(line(Event::Revoke), "revoke accepted");
         let bad = RangeNumbers { offset: 0, length: 0, iomode: 9 };
         assert_eq!(line(Event::Return(bad)), "return refused 5");
+    }
+
+    #[test]
+    fn location_lines() {
+        let mut state = State::default();
+        let mut line = |case: TableCase| table_case_line(&mut state, &case);
+        let body = LayoutPlan::plain(2, 3).encode().bytes;
+        let read = TableCase::Locate(IoRequest::read(5_000, 9_000));
+        let write = TableCase::Locate(IoRequest::write(5_000, 9_000));
+        assert_eq!(line(read.clone()), "read-at refused 17");
+        assert_eq!(line(write.clone()), "write-at refused 17");
+        line(TableCase::Event(Event::Grant(Layout4Head::whole_file().around(&body))));
+        let start = "iomode=2 slot=0 stripe=1 offset=5000 length=3192 mirrors";
+        assert_eq!(line(read.clone()), format!("read-at {start}=2"));
+        assert_eq!(line(write.clone()), format!("write-at {start}=3"));
+        let nothing = TableCase::Locate(IoRequest::read(0, 0));
+        assert_eq!(line(nothing.clone()), "read-at refused 5");
+        // Of the store, one byte less than all is lent.
+        line(TableCase::Lend(32_767));
+        for (case, expected) in [(read, "read-at"), (nothing, "read-at"), (write, "write-at")] {
+            assert_eq!(line(case), format!("{expected} refused 20"));
+        }
     }
 
     #[test]

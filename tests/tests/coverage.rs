@@ -3,14 +3,14 @@
 
 use independent::answers::answer_file;
 use independent::generate::{mixed::random_file, stored::stored_file};
-use std::collections::BTreeMap;
+use std::collections::{BTreeMap, BTreeSet};
 
 /// The numbers of 01's table that belong to the wire part.
 const WIRE_NUMBERS: [u32; 18] = [1, 2, 3, 4, 5, 6, 7, 8, 9, 10, 11, 12, 13, 14, 15, 16, 26, 27];
-/// Those that belong to the segment table.
-const TABLE_NUMBERS: [u32; 6] = [20, 21, 22, 23, 24, 25];
+/// Those that belong to the segment table and to where an I/O goes.
+const TABLE_NUMBERS: [u32; 7] = [17, 20, 21, 22, 23, 24, 25];
 /// The cases that are accepted or refused.
-const NAMES: [&str; 10] = [
+const NAMES: [&str; 12] = [
     "layout-body",
     "layout4",
     "device",
@@ -21,6 +21,8 @@ const NAMES: [&str; 10] = [
     "return",
     "recall",
     "revoke",
+    "read-at",
+    "write-at",
 ];
 /// The other cases, which always do what they say.
 const PLAIN_NAMES: [&str; 6] = ["table", "shelf", "set-byte", "set-segment", "reset", "lend"];
@@ -71,19 +73,54 @@ fn assert_limits_are_reached(answers: &str) {
     assert!(full_stores >= 10, "{full_stores} stores of 8 bodies");
 }
 
+fn lines_starting(answers: &str, start: &str) -> usize {
+    answers.lines().filter(|line| line.starts_with(start)).count()
+}
+
+/// Reads and writes that are answered from each iomode, and refused by each
+/// number that they can be refused by.
+fn assert_requests_are_answered(answers: &str) {
+    let accepted = ["read-at iomode=1 ", "read-at iomode=2 ", "write-at iomode=2 "];
+    for start in accepted {
+        let count = lines_starting(answers, start);
+        assert!(count >= 200, "{start:?} comes {count} times");
+    }
+    for name in ["read-at", "write-at"] {
+        for number in [5, 17, 20] {
+            let count = lines_starting(answers, &format!("{name} refused {number}"));
+            assert!(count >= 50, "{name} refused {number} comes {count} times");
+        }
+    }
+}
+
+/// Every slot, many stripes and sets of mirrors, and pieces of many lengths.
+fn assert_requests_vary(answers: &str) {
+    let requests: Vec<Vec<&str>> = answers
+        .lines()
+        .filter(|line| line.contains("-at iomode="))
+        .map(|line| line.split(' ').collect())
+        .collect();
+    for (place, least) in [(2, 8), (3, 10), (4, 200), (5, 100), (6, 8)] {
+        let values: BTreeSet<&str> = requests.iter().map(|words| words[place]).collect();
+        assert!(values.len() >= least, "only {values:?}");
+    }
+}
+
 #[test]
 fn the_stored_file_reaches_every_refusal_often() {
     let answers = answer_file(&stored_file().expect("the captures"));
     assert_each_number_comes(&answers, 10, 50);
     assert_each_name_is_accepted_and_refused(&answers);
     assert_limits_are_reached(&answers);
+    assert_requests_are_answered(&answers);
+    assert_requests_vary(&answers);
 }
 
 #[test]
 fn the_stored_file_is_small_and_ends_properly() {
     let file = stored_file().expect("the captures");
     let answers = answer_file(&file);
-    assert!(file.len() < 1_400_000, "{} bytes of cases", file.len());
+    assert!(file.len() < 1_500_000, "{} bytes of cases", file.len());
     assert!(answers.len() < 900_000, "{} bytes of answers", answers.len());
     assert!(answers.ends_with(&format!("\nend {}\n", file.len())));
 }
@@ -94,4 +131,5 @@ fn random_files_reach_every_refusal() {
     assert_each_number_comes(&answers, 10, 50);
     assert_each_name_is_accepted_and_refused(&answers);
     assert_limits_are_reached(&answers);
+    assert_requests_are_answered(&answers);
 }

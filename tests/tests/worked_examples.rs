@@ -1,4 +1,5 @@
-//! The worked examples of 01 that concern the table, with the paper's numbers.
+//! The worked examples of 01 that concern the table and where an I/O goes, with
+//! the paper's numbers.
 
 #[path = "support/side_by_side.rs"]
 mod side_by_side;
@@ -6,6 +7,7 @@ mod side_by_side;
 use independent::event::{Event, RangeNumbers};
 use independent::generate::bodies::LayoutPlan;
 use independent::generate::events::{grant, layout_return, recall, small_body};
+use independent::io_request::{Direction, IoRequest};
 use independent::iomode::{Iomode, IOMODE_ANY, IOMODE_READ, IOMODE_RW};
 use independent::range::LAST_BYTE;
 use independent::segments::Right::{self, Granted, Recalled};
@@ -28,6 +30,62 @@ fn after(events: &[Event]) -> SideBySide {
         assert_eq!(both.apply(event), 0, "{event:?}");
     }
     both
+}
+
+/// The answer's number to a request, 0 for accepted.
+fn number(both: &SideBySide, request: &IoRequest) -> u8 {
+    both.state.locate(request).map_or_else(|refusal| refusal.number(), |_| 0)
+}
+
+/// Stripe and piece of a read and of a write on a whole file of such a layout.
+fn stripe_and_piece(unit: u64, servers: usize, offset: u64, length: u64) -> [(u32, u64); 2] {
+    let body = LayoutPlan { unit, ..LayoutPlan::plain(1, servers) }.encode().bytes;
+    let both = after(&[grant(IOMODE_RW, 0, LAST_BYTE, &body)]);
+    Direction::BOTH.map(|direction| {
+        let found = both.state.locate(&IoRequest { direction, offset, length }).unwrap();
+        assert_eq!((found.offset, found.mirrors), (offset, 1));
+        (found.stripe, found.length)
+    })
+}
+
+/// "Unit 4,096, 3 servers: offset 4,095, length 2 gives stripe 0, piece 1."
+/// "Same: offset 17,592,186,044,416 (2^44) gives stripe 1, not 0." "Unit 2^62, 4
+/// servers: offset 13,835,058,055,282,163,712 gives stripe 3."
+#[test]
+fn stripes() {
+    assert_eq!(stripe_and_piece(4_096, 3, 4_095, 2), [(0, 1); 2]);
+    assert_eq!(stripe_and_piece(4_096, 3, 17_592_186_044_416, 1), [(1, 1); 2]);
+    assert_eq!(stripe_and_piece(1 << 62, 4, 13_835_058_055_282_163_712, 9), [(3, 9); 2]);
+}
+
+/// "counting stripes from the segment's start instead of the file's"
+#[test]
+fn stripes_are_counted_from_the_start_of_the_file() {
+    let body = LayoutPlan::plain(1, 3).encode().bytes;
+    let both = after(&[grant(IOMODE_RW, 5_000, LAST_BYTE, &body)]);
+    let found = |offset| both.state.locate(&IoRequest::write(offset, 9_000)).unwrap();
+    assert_eq!((found(5_000).stripe, found(5_000).length), (1, 3_192));
+    assert_eq!((found(8_192).stripe, found(8_192).length), (2, 4_096));
+}
+
+/// "An I/O request has no such special length", so none reaches the last byte.
+#[test]
+fn io_at_the_last_byte() {
+    let both = after(&[grant(IOMODE_RW, 0, LAST_BYTE, &small_body(2))]);
+    for direction in Direction::BOTH {
+        for (offset, length, expected) in [
+            (u64::MAX, 1, 5),
+            (u64::MAX, u64::MAX, 5),
+            (u64::MAX - 1, 2, 5),
+            (1, u64::MAX, 5),
+            (0, 0, 5),
+            (u64::MAX - 1, 1, 0),
+            (0, u64::MAX, 0),
+        ] {
+            let request = IoRequest { direction, offset, length };
+            assert_eq!(number(&both, &request), expected, "{request:?}");
+        }
+    }
 }
 
 /// "Range offset 2^64 - 1: length 2^64 - 1 is one byte; length 1 is refused 5;
@@ -66,11 +124,14 @@ fn the_hole_granted_again() {
     assert_eq!(rw(&other), [(0, 39, Granted(0)), (40, 59, Granted(1)), (60, 99, Granted(0))]);
 }
 
-/// "Recall RW 10..19 of 0..99: three segments".
+/// "Recall RW 10..19 of 0..99: three segments; writing at 10 is 17, at 20 is
+/// allowed."
 #[test]
 fn a_recall_inside_a_segment() {
     let both = after(&[grant(2, 0, 99, &small_body(2)), recall(2, 10, 19)]);
     assert_eq!(rw(&both), [(0, 9, Granted(0)), (10, 19, Recalled(0)), (20, 99, Granted(0))]);
+    let write = |offset| number(&both, &IoRequest::write(offset, 1));
+    assert_eq!([9, 10, 19, 20, 99, 100].map(write), [0, 17, 17, 0, 0, 17]);
 }
 
 /// "A recall on an empty table is 25; a return there is accepted."
@@ -142,6 +203,8 @@ fn slips_of_the_old_code() {
         layout_return(2, 0, 0),
     ]);
     assert_eq!(segments(&both, Iomode::Read), [(0, 99, Recalled(0))]);
+    assert_eq!(number(&both, &IoRequest::read(1, 1)), 0);
+    assert_eq!(number(&both, &IoRequest::write(0, 1)), 17);
     assert_eq!(rw(&both), [(1, 99, Granted(0))]);
     assert_eq!(both.apply(&grant(1, 50, 50, &small_body(2))), 22);
     assert_eq!(both.apply(&grant(1, 50, 150, &small_body(3))), 21);

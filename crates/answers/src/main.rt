@@ -5,6 +5,7 @@ mod event_case;
 mod layout4_case;
 mod layout_case;
 mod line;
+mod locate_case;
 mod record;
 mod report_read_case;
 mod report_write_case;
@@ -18,7 +19,6 @@ use event_case::Kind;
 use libc::STDIN_FILENO;
 use libc::STDOUT_FILENO;
 use record::Head;
-use segments::Table;
 use state::State;
 use state::Told;
 ghost use Prim.Native.Nat.{_≤_};
@@ -41,10 +41,13 @@ fn put_other_case(
     line: &mut [u8],
     kind: u32,
     payload: &[u8],
-    table: Table,
+    state: State,
     store: &mut [u8],
 ) -> usize {
+    let table = state.table;
     match kind {
+        70 => locate_case::put_locate(line, kind, payload, state, store),
+        71 => locate_case::put_locate(line, kind, payload, state, store),
         72 => table_case::put_table(line, payload, table),
         73 => store_case::put_store(line, payload, store),
         74 => spoil_case::set_byte(line, payload, store),
@@ -62,8 +65,7 @@ fn put_case(line: &mut [u8], kind: u32, payload: &[u8], state: State, store: &mu
         76 => spoil_case::reset(line, payload, state, store),
         77 => spoil_case::set_borrowed(line, payload, state),
         _ => {
-            let table = state.table;
-            let n = put_other_case(line, kind, payload, table, store);
+            let n = put_other_case(line, kind, payload, state, store);
             Told { state, length: n }
         }
     }

@@ -4,6 +4,7 @@ use super::mixed::add_case;
 use super::random::Random;
 use crate::cases::{kind, CaseFileWriter};
 use crate::event::{Event, RangeNumbers};
+use crate::io_request::IoRequest;
 use crate::iomode::{Iomode, IOMODE_ANY};
 use crate::segments::Segment;
 use crate::table_cases::{encode_table_case, kind as table_kind, TableCase};
@@ -69,6 +70,8 @@ fn add_table_payload_of_another_length(cases: &mut CaseFileWriter, random: &mut 
         TableCase::Event(Event::Return(numbers)),
         TableCase::Event(Event::Recall(numbers)),
         TableCase::Event(Event::Revoke),
+        TableCase::Locate(IoRequest::read(0, 1)),
+        TableCase::Locate(IoRequest::write(0, 1)),
         TableCase::ShowTable,
         TableCase::ShowStore,
         TableCase::SetByte { place: 0, value: 0 },

@@ -1,11 +1,14 @@
-//! Random events that build a table up. The source follows the table that its
-//! events make, so that it can aim at the ends of segments.
+//! Random events that build a table up, and requests for I/O between them. The
+//! source follows the table that its events make, so that it can aim at the ends
+//! of segments.
 
+use super::aimed_requests::aimed_requests;
 use super::bodies::Layout4Head;
 use super::events::{length_between, small_body};
 use super::layout4s::EDGES;
 use super::random::Random;
 use super::spoilings::spoiling_and_repair;
+use super::striped_bodies::striped_body;
 use crate::cases::CaseFileWriter;
 use crate::event::{Event, RangeNumbers};
 use crate::iomode::{Iomode, IOMODE_ANY};
@@ -16,7 +19,9 @@ use crate::table_cases::TableCase;
 use crate::table_lines::table_case_line;
 
 /// How many random cases of the table the stored file has.
-const STORED_CASES: usize = 1_500;
+const STORED_CASES: usize = 2_000;
+/// The most requests for I/O that follow each other.
+const MOST_REQUESTS: usize = 6;
 
 pub fn add(cases: &mut CaseFileWriter) {
     let mut random = Random::new(72);
@@ -31,6 +36,9 @@ pub fn add(cases: &mut CaseFileWriter) {
 struct Manner {
     /// How many bodies are granted: few make merges, many meet 24.
     bodies: usize,
+    /// The first of them, and what they are made by.
+    first_body: u32,
+    body_of: fn(u32) -> Vec<u8>,
     /// Ranges start at multiples of this, counted from the origin.
     step: u64,
     origin: u64,
@@ -50,6 +58,8 @@ impl Manner {
         let span = step * starts as u64;
         Manner {
             bodies: random.pick(&[1, 2, 3, 7, 9, 12]),
+            first_body: random.below(40) as u32,
+            body_of: random.pick(&[small_body as fn(u32) -> Vec<u8>, striped_body]),
             step,
             origin: random.pick(&[0, 0, 1_000, (1 << 63) - span / 2, LAST_BYTE - span]),
             starts,
@@ -87,15 +97,21 @@ impl EventSource {
         cases
     }
 
-    /// The next event, and the table and the store it leaves; or spoilings with
-    /// the events that find them.
+    /// The next event, and the table and the store it leaves; or some requests
+    /// for I/O; or spoilings with the calls that find them.
     fn next_cases(&mut self, random: &mut Random) -> Vec<TableCase> {
         if !self.state.is_sound() {
             return vec![TableCase::Reset];
         }
         if random.once_in(40) {
-            let events = (0..random.between(1, 5)).map(|_| self.event(random)).collect();
-            return spoiling_and_repair(random, &self.state, events);
+            let mut calls = aimed_requests(random, &self.state, MOST_REQUESTS / 2);
+            for _ in 0..random.between(1, 5) {
+                calls.push(TableCase::Event(self.event(random)));
+            }
+            return spoiling_and_repair(random, &self.state, calls);
+        }
+        if random.once_in(6) {
+            return aimed_requests(random, &self.state, MOST_REQUESTS);
         }
         if random.once_in(1_000) {
             return vec![TableCase::Reset];
@@ -152,7 +168,8 @@ impl EventSource {
         if random.once_in(50) {
             head.length = random.pick(&EDGES);
         }
-        let bytes = head.around(&small_body(random.below(self.manner.bodies) as u32));
+        let number = self.manner.first_body + random.below(self.manner.bodies) as u32;
+        let bytes = head.around(&(self.manner.body_of)(number));
         Event::Grant(if random.once_in(30) { random.one_byte_changed(&bytes) } else { bytes })
     }
 

@@ -1,5 +1,6 @@
 //! Case files: the stored one ([`stored`]) and random ones ([`mixed`]).
 
+pub mod aimed_requests;
 pub mod bad_records;
 pub mod bindings;
 pub mod bodies;
@@ -11,6 +12,7 @@ pub mod file_ends;
 pub mod granted_bytes;
 pub mod layout4s;
 pub mod layouts;
+pub mod locates;
 pub mod mixed;
 pub mod overlaps;
 pub mod random;
@@ -20,5 +22,6 @@ pub mod segment_limits;
 pub mod slot_limits;
 pub mod spoilings;
 pub mod stored;
+pub mod striped_bodies;
 pub mod unsound;
 pub mod wire;

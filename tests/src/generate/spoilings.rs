@@ -1,7 +1,6 @@
-//! Random damage to a table or store, the events that meet it, and its repair.
+//! Random damage to a table or store, the calls that meet it, and its repair.
 
 use super::random::Random;
-use crate::event::Event;
 use crate::iomode::Iomode;
 use crate::segments::{Right, Segment};
 use crate::state::State;
@@ -9,12 +8,12 @@ use crate::store::{SLOT_COUNT, SLOT_LENGTH, STORE_LENGTH};
 use crate::table::SEGMENT_LIMIT;
 use crate::table_cases::TableCase;
 
-/// A spoiling, the events after it, what they left, and the case that brings
+/// A spoiling, the calls after it, what they left, and the case that brings
 /// back what was spoiled.
 pub fn spoiling_and_repair(
     random: &mut Random,
     state: &State,
-    events: Vec<Event>,
+    calls: Vec<TableCase>,
 ) -> Vec<TableCase> {
     let (spoiling, repair) = match random.below(5) {
         0 => (TableCase::Lend(lent_length(random)), TableCase::Lend(STORE_LENGTH)),
@@ -22,7 +21,7 @@ pub fn spoiling_and_repair(
         _ => spoiled_place(random, state),
     };
     let mut cases = vec![spoiling];
-    cases.extend(events.into_iter().map(TableCase::Event));
+    cases.extend(calls);
     cases.extend([TableCase::ShowTable, TableCase::ShowStore, repair]);
     cases
 }

@@ -2,7 +2,7 @@
 
 use super::{
     bindings, captured, devices, event_bursts, file_ends, granted_bytes, layout4s, layouts,
-    overlaps, reports_read, reports_written, segment_limits, slot_limits, unsound,
+    locates, overlaps, reports_read, reports_written, segment_limits, slot_limits, unsound,
 };
 use crate::cases::CaseFileWriter;
 use std::io;
@@ -25,6 +25,7 @@ pub fn stored_file() -> io::Result<Vec<u8>> {
     segment_limits::add(&mut cases);
     slot_limits::add(&mut cases);
     granted_bytes::add(&mut cases);
+    locates::add(&mut cases);
     unsound::add(&mut cases);
     event_bursts::add(&mut cases);
     Ok(cases.into_bytes())

@@ -1,9 +1,10 @@
-//! Tables and stores that were spoiled: each of the four events is refused as
-//! 20, whatever else would be wrong with it.
+//! Tables and stores that were spoiled: each of the four events and each request
+//! for I/O is refused as 20, whatever else would be wrong with it.
 
 use super::events::{grant, layout_return, recall, show, small_body};
 use crate::cases::CaseFileWriter;
 use crate::event::{Event, RangeNumbers};
+use crate::io_request::IoRequest;
 use crate::iomode::Iomode;
 use crate::range::LAST_BYTE;
 use crate::segments::{Right, Segment};
@@ -47,14 +48,17 @@ fn add_sound_start(cases: &mut CaseFileWriter) {
 fn add_spoiled(cases: &mut CaseFileWriter, spoilings: &[TableCase]) {
     add_sound_start(cases);
     spoilings.iter().for_each(|spoiling| cases.table(spoiling));
-    add_each_event(cases);
+    add_each_call(cases);
     show(cases);
 }
 
-/// Bytes and numbers that are refused otherwise come first: they change
-/// nothing where the spoiled table is sound after all.
-fn add_each_event(cases: &mut CaseFileWriter) {
+/// Requests for I/O, bytes and numbers that are refused otherwise come first:
+/// they change nothing where the spoiled table is sound after all.
+fn add_each_call(cases: &mut CaseFileWriter) {
     let [one, _] = two_bodies();
+    cases.locate(IoRequest::read(55, 50));
+    cases.locate(IoRequest::write(15, 50));
+    cases.locate(IoRequest::write(250, 0));
     cases.event(Event::Grant(vec![0; 15]));
     cases.event(Event::Recall(RangeNumbers { offset: 0, length: 0, iomode: 9 }));
     cases.event(recall(1, 500, 600));
@@ -159,7 +163,7 @@ fn add_lent_again(cases: &mut CaseFileWriter) {
     cases.table(&TableCase::SetByte { place: 9_000, value: 0 });
     cases.event(recall(3, 55, 55));
     cases.table(&TableCase::Lend(STORE_LENGTH - 1));
-    add_each_event(cases);
+    add_each_call(cases);
     cases.table(&TableCase::Reset);
     cases.event(grant(2, 0, 9, &small_body(3)));
     show(cases);
@@ -176,7 +180,7 @@ fn add_full_by_hand(cases: &mut CaseFileWriter) {
         }
         cases.table(&set(Iomode::ReadWrite, 31, last_first, 3_149, Right::Granted(0)));
         cases.event(layout_return(2, 3_010, 3_020));
-        add_each_event(cases);
+        add_each_call(cases);
         show(cases);
     }
 }

@@ -1,0 +1,177 @@
+//! Reads and writes in a small file, byte by byte: rights come from the ledger,
+//! and stripes are counted instead of computed.
+
+#[path = "support/side_by_side.rs"]
+mod side_by_side;
+
+use independent::event::Event;
+use independent::generate::bodies::LayoutPlan;
+use independent::generate::events::{grant, layout_return, recall};
+use independent::generate::random::Random;
+use independent::generate::striped_bodies::with_efficiencies;
+use independent::io_request::{Direction, IoRequest};
+use independent::iomode::Iomode;
+use independent::ledger_slots::BodyRight;
+use independent::locate::Location;
+use independent::range::LAST_BYTE;
+use side_by_side::SideBySide;
+use std::collections::BTreeMap;
+
+/// The bytes that are asked for, and the most that are asked for at once.
+const SIZE: usize = 64;
+const MOST: usize = 40;
+const LISTS: u64 = 40;
+const EVENTS_A_LIST: usize = 30;
+/// Every so many events all requests are made.
+const EVENTS_A_LOOK: usize = 6;
+
+/// Unit, servers, efficiencies of the mirrors, and flags.
+const LAYOUTS: [(u64, usize, &[u32], u32); 8] = [
+    (3, 2, &[1, 2], 0),
+    (5, 3, &[4, 4], 8),
+    (1, 4, &[0], 4),
+    (0, 1, &[9, 1, 9], 12),
+    (7, 5, &[1, 1, 2], 0),
+    (0, 1, &[1], 0),
+    (64, 2, &[2, 3], 8),
+    (10, 3, &[1], 7),
+];
+
+/// The hint, and so the body's last byte, is the layout's number.
+fn body(number: usize) -> Vec<u8> {
+    let (unit, servers, efficiencies, flags) = LAYOUTS[number];
+    let plain = LayoutPlan::plain(efficiencies.len(), servers);
+    let plan = LayoutPlan { unit, flags, hint: number as u32, ..plain };
+    with_efficiencies(plan, efficiencies).encode().bytes
+}
+
+/// For every byte the number of its unit and its server, by counting up.
+fn counted(number: usize) -> Vec<(u32, u32)> {
+    let (unit, servers, ..) = LAYOUTS[number];
+    let (mut unit_number, mut server, mut used) = (0, 0, 0);
+    let mut bytes = Vec::new();
+    while bytes.len() < SIZE + MOST {
+        if servers > 1 && used == unit {
+            used = 0;
+            unit_number += 1;
+            server = if server + 1 == servers as u32 { 0 } else { server + 1 };
+        }
+        bytes.push((unit_number, server));
+        used += 1;
+    }
+    bytes
+}
+
+/// The mirrors as bits; the best one is the first that no other beats.
+fn chosen_mirrors(number: usize, direction: Direction) -> u32 {
+    let (_, _, efficiencies, flags) = LAYOUTS[number];
+    let best = efficiencies.iter().position(|one| efficiencies.iter().all(|other| other <= one));
+    let is_chosen =
+        |mirror: usize| (direction == Direction::Write && flags & 8 == 0) || Some(mirror) == best;
+    (0..efficiencies.len()).filter(|&mirror| is_chosen(mirror)).map(|mirror| 1 << mirror).sum()
+}
+
+/// The number of the layout that a byte is granted under.
+fn granted_layout(both: &SideBySide, iomode: Iomode, byte: u64) -> Option<usize> {
+    match both.ledger.right_at(iomode, byte) {
+        BodyRight::Granted(body) => body.last().map(|&hint| usize::from(hint)),
+        _ => None,
+    }
+}
+
+/// The answer by the ledger, byte after byte; nothing stands for 17.
+fn expected(both: &SideBySide, request: &IoRequest) -> Option<Location> {
+    let IoRequest { direction, offset, length } = *request;
+    let (iomode, number) = Iomode::BOTH.into_iter().find_map(|iomode| {
+        let number = granted_layout(both, iomode, offset)?;
+        let serves = match (direction, iomode) {
+            (Direction::Write, _) => iomode == Iomode::ReadWrite,
+            (Direction::Read, Iomode::Read) => true,
+            (Direction::Read, Iomode::ReadWrite) => LAYOUTS[number].3 & 4 == 0,
+        };
+        serves.then_some((iomode, number))
+    })?;
+    let right = both.ledger.right_at(iomode, offset);
+    let bytes = counted(number);
+    let (unit_number, stripe) = bytes[offset as usize];
+    let belongs = |byte: &u64| {
+        bytes[*byte as usize].0 == unit_number && both.ledger.right_at(iomode, *byte) == right
+    };
+    let length = (offset..offset + length).take_while(belongs).count() as u64;
+    let slot = both.ledger.slots().number_of(right.body()?)?;
+    let mirrors = chosen_mirrors(number, direction);
+    Some(Location { iomode, slot, stripe, offset, length, mirrors })
+}
+
+fn event(random: &mut Random) -> Event {
+    let first = random.below(SIZE) as u64;
+    let last = if random.once_in(8) { LAST_BYTE } else { first + random.below(20) as u64 };
+    let iomode = random.pick(&[1, 2, 2]);
+    match random.below(8) {
+        0 => layout_return(random.pick(&[1, 2, 3]), first, last),
+        1 | 2 => recall(iomode, first, last),
+        _ => grant(iomode, first, last, &body(random.below(LAYOUTS.len()))),
+    }
+}
+
+/// Makes every request and counts the answers: 17, or the iomode's number.
+fn ask_all(both: &SideBySide, answers: &mut BTreeMap<(&'static str, u32), usize>) {
+    for direction in Direction::BOTH {
+        for (offset, length) in (0..SIZE as u64).flat_map(|o| [1, 2, 5, 13, 40].map(|l| (o, l))) {
+            let request = IoRequest { direction, offset, length };
+            let found = both.state.locate(&request);
+            assert_eq!(found.ok(), expected(both, &request), "{request:?}");
+            let number = match found {
+                Ok(location) => location.iomode.number(),
+                Err(refusal) => u32::from(refusal.number()),
+            };
+            *answers.entry((direction.name(), number)).or_default() += 1;
+        }
+    }
+}
+
+#[test]
+fn requests_by_the_ledger() {
+    let mut answers = BTreeMap::new();
+    for seed in 0..LISTS {
+        let mut random = Random::new(seed);
+        let mut both = SideBySide::default();
+        for number in 1..=EVENTS_A_LIST {
+            both.apply(&event(&mut random));
+            if number % EVENTS_A_LOOK == 0 {
+                ask_all(&both, &mut answers);
+            }
+        }
+    }
+    let reached: Vec<_> = answers.keys().copied().collect();
+    let all = [("read-at", 1), ("read-at", 2), ("read-at", 17), ("write-at", 2), ("write-at", 17)];
+    assert_eq!(reached, all);
+    assert!(answers.values().all(|&count| count >= 1_000), "{answers:?}");
+}
+
+/// A file read and written in pieces: they follow each other up to the end,
+/// each in one unit, and there are no more of them than units.
+#[test]
+fn pieces_cover_a_file() {
+    for number in 0..LAYOUTS.len() {
+        let mut both = SideBySide::default();
+        for iomode in Iomode::BOTH {
+            assert_eq!(both.apply(&grant(iomode.number(), 0, LAST_BYTE, &body(number))), 0);
+        }
+        let bytes = counted(number);
+        for (direction, start) in [(Direction::Read, 0), (Direction::Write, 8)] {
+            let (mut offset, mut pieces) = (start, 0);
+            while offset < SIZE {
+                let length = (SIZE - offset) as u64;
+                let request = IoRequest { direction, offset: offset as u64, length };
+                let found = both.state.locate(&request).unwrap();
+                let end = offset + found.length as usize;
+                assert!(offset < end && end <= SIZE);
+                assert!(bytes[offset..end].iter().all(|byte| *byte == bytes[offset]));
+                assert_eq!(found.stripe, bytes[offset].1);
+                (offset, pieces) = (end, pieces + 1);
+            }
+            assert_eq!(pieces, bytes[SIZE - 1].0 - bytes[start].0 + 1);
+        }
+    }
+}
