@@ -9,7 +9,7 @@ use base::MirrorNumber;
 use base::StripeNumber;
 use binding::Binding;
 use binding::Bound;
-use device::Version;
+use device_version::Version;
 
 // Where the layout body stands.
 const LAYOUT_AT: usize = 32;

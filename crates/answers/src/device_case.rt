@@ -5,10 +5,10 @@ use crate::line::put_field;
 use crate::line::put_part;
 use crate::line::put_refusal;
 use crate::line::put_text;
-use device::Address;
 use device::DeviceAnswer;
-use device::NetidClass;
-use device::Version;
+use device_version::Version;
+use netaddr::Address;
+use netaddr::NetidClass;
 
 fn put_class(line: &mut [u8], at: usize, class: NetidClass) -> usize {
     match class {

@@ -10,7 +10,7 @@ pub(crate) fn put_text(line: &mut [u8], at: usize, text: &[u8]) -> usize {
     if line.len() - at < text.len() {
         return at;
     }
-    numbers::put_bytes(line, at, text);
+    buffers::put_bytes(line, at, text);
     at + text.len()
 }
 

@@ -10,6 +10,6 @@ pub(crate) fn sixteen_at(s: &[u8], at: usize) -> [u8; 16] {
         return bytes;
     }
     let end = at + 16;
-    numbers::put_bytes(&mut bytes, 0, &s[at..end]);
+    buffers::put_bytes(&mut bytes, 0, &s[at..end]);
     bytes
 }

@@ -133,7 +133,7 @@ pub(crate) fn reset(line: &mut [u8], payload: &[u8], state: State, store: &mut [
         return Told { state, length: 0 };
     }
     let size = store.len();
-    numbers::put_zeros(store, 0, size);
+    buffers::put_zeros(store, 0, size);
     let n = put_text(line, 0, b"reset done");
     Told {
         state: start(),

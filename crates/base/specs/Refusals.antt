@@ -1,33 +1,7 @@
 -- The scope's table of refusal numbers.
 use Prim.Native.Nat.{ℕ}
 use Rattle.base.specs.declared.refusal.Refusal.{Refusal}
-use Rattle.base.specs.declared.refusal.Refusal.the-variants.{
-  BytesRunOut,
-  BytesLeftOver,
-  IomodeNotAllowed,
-  LayoutTypeUnknown,
-  RangeInvalid,
-  PaddingNotZero,
-  BooleanInvalid,
-  OutsideLimit,
-  ServerCountDiffers,
-  UnitDisagrees,
-  FlagUnknown,
-  VersionInvalid,
-  BindingDiffers,
-  NoSupportedVersion,
-  StateidNotZero,
-  BeyondLayout,
-  RightMissing,
-  Unsound,
-  HeldUnderOtherBody,
-  RecalledInRange,
-  TooManySegments,
-  NoFreeSlot,
-  NothingHeld,
-  OutputTooShort,
-  ErrorInvalid,
-}
+use Rattle.base.specs.declared.refusal.Refusal.the-variants.{BytesRunOut, BytesLeftOver, IomodeNotAllowed, LayoutTypeUnknown, RangeInvalid, PaddingNotZero, BooleanInvalid, OutsideLimit, ServerCountDiffers, UnitDisagrees, FlagUnknown, VersionInvalid, BindingDiffers, NoSupportedVersion, StateidNotZero, BeyondLayout, RightMissing, Unsound, HeldUnderOtherBody, RecalledInRange, TooManySegments, NoFreeSlot, NothingHeld, OutputTooShort, ErrorInvalid}
 
 abbrev pub numberOf : Refusal → ℕ
 -- the bytes run out before an item is complete

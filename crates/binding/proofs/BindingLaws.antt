@@ -1,15 +1,14 @@
 -- Laws of the choice of a version entry.
 use Prim.Native.Nat.{ℕ, suc, _+_, _≤_, _<_}
-use mathlib.Core.Path.{_≡_, refl, sym, ap, _∙_}
+use mathlib.Core.Path.{_≡_}
 use mathlib.Core.Bool.{Bool, true, false}
 use mathlib.Core.List.{List, [], _∷_}
-use native.Mathlib.Numerals.{add-one}
 use native.Mathlib.Omega.{arith}
 use lib.ListN.{length, drop, getD, take, length-take, drop-of-length-le}
 use lib.Seq.{drop-cons, getD-take}
-use Rattle.base.specs.Answer.{Answer, accepted, refused, pick}
-use Rattle.device.specs.Versions.{blankVersion}
-use Rattle.device.specs.declared.version.Version.{Version}
+use Rattle.base.specs.Answer.{accepted, refused, pick}
+use Rattle.device_version.specs.Versions.{blankVersion}
+use Rattle.device_version.specs.declared.version.Version.{Version}
 use Rattle.binding.specs.Bindings.{chosenFrom, supports}
 
 pub chosen-next : (set n i : ℕ) (vs : List Version) → i < n → n ≤ length vs

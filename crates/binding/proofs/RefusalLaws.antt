@@ -1,8 +1,8 @@
 -- A binding refuses as listed: what is read again of accepted bodies is there, so only the bodies' own numbers, 16, 8, 13, 14 and 15 come.
-use Prim.Native.Nat.{ℕ, zero, suc, _+_, _*_, _≤_, _<_}
+use Prim.Native.Nat.{ℕ, zero, suc, _+_, _*_, _<_}
 use mathlib.Core.Path.{_≡_, refl, sym, ap, _∙_}
 use mathlib.Core.Logic.{_⊎_, inl, inr, ⊎-elim}
-use mathlib.Core.Bool.{Bool, true, false, _&&_}
+use mathlib.Core.Bool.{Bool, true, false}
 use mathlib.Core.List.{List, [], _∷_}
 use native.Mathlib.Omega.{arith}
 use borrow.Author.Tests.{eqb-true, ltb-true}
@@ -11,18 +11,16 @@ use lib.ListN.{getD, take}
 use Rattle.base.specs.Answer.{Answer, accepted, refused, given, pick}
 use Rattle.xdr.specs.Res.{Res, ok, no, then, manyAt}
 use Rattle.xdr.specs.Items.{opaqueAt}
-use Rattle.xdr.specs.declared.Part.{Part}
 use Rattle.xdr.proofs.Accepted.{both, ran, same-value}
 use Rattle.numbers.specs.Numbers.{bytesFrom, sameBytes}
-use Rattle.server.specs.Servers.{handlesAt, headAt, serverAt}
+use Rattle.server.specs.Servers.{handlesAt, serverAt}
 use Rattle.server.specs.declared.item.Server.{Server}
 use Rattle.layout.specs.Layouts.{Layout, layoutBody}
 use Rattle.layout.proofs.LayoutLaws.{start-stands}
 use Rattle.device.specs.Bodies.{Device, deviceBody}
-use Rattle.device.specs.Versions.{blankVersion}
-use Rattle.device.specs.declared.version.Version.{Version}
+use Rattle.device_version.specs.Versions.{blankVersion}
+use Rattle.device_version.specs.declared.version.Version.{Version}
 use Rattle.binding.specs.Bindings.{bound, boundTo, chosenFrom, entryBound, handleAt, matches, must, serverBound, stateidFits, supports, valueOf}
-use Rattle.binding.specs.declared.entry.Bound.{Bound}
 use Rattle.binding.proofs.BindingLaws.{chosen-below}
 
 -- ---- the filehandle at a place below the count is there

@@ -2,7 +2,7 @@
 -- 2, 4, 8 for 3, 4.0, 4.1, 4.2). Check layout body, device body, 16, 8, 13, 14, 15."
 use Prim.Native.Nat.{ℕ, _+_, _*_, _/_, _%_}
 use mathlib.Core.List.{List, [], _∷_}
-use mathlib.Core.Bool.{Bool, true, false, _&&_, _||_, not}
+use mathlib.Core.Bool.{Bool, _&&_, _||_, not}
 use lib.ListN.{getD, replicate, take}
 use lib.Dec.{leb, ltb, eqb}
 use Rattle.base.specs.Answer.{Answer, accepted, refused, given, pick}
@@ -14,8 +14,8 @@ use Rattle.server.specs.Servers.{handlesAt, serverAt}
 use Rattle.server.specs.declared.item.Server.{Server}
 use Rattle.layout.specs.Layouts.{layoutBody}
 use Rattle.device.specs.Bodies.{deviceBody}
-use Rattle.device.specs.Versions.{blankVersion}
-use Rattle.device.specs.declared.version.Version.{Version}
+use Rattle.device_version.specs.Versions.{blankVersion}
+use Rattle.device_version.specs.declared.version.Version.{Version}
 use Rattle.binding.specs.declared.entry.Bound.{Bound}
 
 -- go on where a test passes, else refuse with a number

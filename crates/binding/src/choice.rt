@@ -1,6 +1,6 @@
 // Which version entry is chosen, and the filehandle at a place.
 use base::Refusal;
-use device::Version;
+use device_version::Version;
 use server::ReadEnd;
 use xdr::Cursor;
 use xdr::ReadPart;

@@ -4,7 +4,7 @@ use crate::choice::choose;
 use crate::choice::read_handle;
 use crate::choice::why_choice;
 use base::Refusal;
-use device::Version;
+use device_version::Version;
 use server::ReadServer;
 use server::Server;
 use xdr::Cursor;

@@ -4,19 +4,19 @@ use mathlib.Core.Path.{_≡_, refl, sym, ap, _∙_}
 use mathlib.Core.Bool.{Bool, true, false}
 use mathlib.Core.List.{List, _∷_}
 use native.Mathlib.Omega.{arith}
-use borrow.Author.Tests.{eqb-true, leb-true}
+use borrow.Author.Tests.{eqb-true}
 use lib.Dec.{eqb, leb}
 use lib.ListN.{length, getD, replicate, List·getD-append}
 use Rattle.base.specs.Answer.{accepted, refused, pick}
 use Rattle.base.specs.Lists.{padded}
 use Rattle.xdr.specs.Res.{Res, ok, no, manyAt, whole}
 use Rattle.xdr.proofs.Accepted.{count-read, many-length, passed, ran, same-value}
-use Rattle.device.specs.Addresses.{addressAt, blankAddress}
-use Rattle.device.specs.Versions.{judged, versionAt, versionFits, blankVersion}
+use Rattle.netaddr.specs.Addresses.{addressAt, blankAddress}
+use Rattle.device_version.specs.Versions.{judged, versionAt, versionFits, blankVersion}
 use Rattle.device.specs.Bodies.{Device, Listed, listAt, deviceAt, deviceBody}
-use Rattle.device.specs.declared.address.Address.{Address}
-use Rattle.device.specs.declared.version.Version.{Version}
-use Rattle.device.proofs.DeviceLaws.{part-within}
+use Rattle.netaddr.specs.declared.address.Address.{Address}
+use Rattle.device_version.specs.declared.version.Version.{Version}
+use Rattle.netaddr.proofs.AddressLaws.{part-within}
 use Rattle.device.proofs.PlaceLaws.{length-padded}
 
 -- ---- items of one kind

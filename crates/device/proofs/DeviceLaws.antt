@@ -1,27 +1,16 @@
 -- Laws of the device body: how each fault, met front to back, settles it.
-use Prim.Native.Nat.{ℕ, _+_, _≤_, _<_}
-use mathlib.Core.Path.{_≡_, ap}
+use Prim.Native.Nat.{ℕ, _≤_, _<_}
+use mathlib.Core.Path.{_≡_}
 use mathlib.Core.List.{List}
-use native.Mathlib.Omega.{arith}
 use borrow.Author.Tests.{le-leb, lt-leb, eq-eqb, ne-eqb}
 use lib.ListN.{length}
 use Rattle.base.specs.Answer.{accepted, refused, pick}
 use Rattle.xdr.specs.Res.{ok, no, then, whole}
-use Rattle.xdr.specs.Items.{opaqueAt}
-use Rattle.xdr.specs.declared.Part.{Part}
-use Rattle.xdr.proofs.Accepted.{opaque-read}
-use Rattle.device.specs.Addresses.{addressAt, blankAddress}
-use Rattle.device.specs.Versions.{versionAt, blankVersion}
+use Rattle.netaddr.specs.Addresses.{addressAt, blankAddress}
+use Rattle.device_version.specs.Versions.{versionAt, blankVersion}
 use Rattle.device.specs.Bodies.{Listed, listAt, deviceAt, deviceBody}
-use Rattle.device.specs.declared.address.Address.{Address}
-use Rattle.device.specs.declared.version.Version.{Version}
-
--- the bytes of an item stand inside the body
-pub part-within : (lo hi : ℕ) (s : List ℕ) (at : ℕ) (v : Part) (p : ℕ) → opaqueAt lo hi s at ≡ ok v p → v .start + v .len ≤ length s
-part-within lo hi s at v p h =
-    let b = opaque-read lo hi s at v p h .bytes in
-    let e : v .start ≡ at + 4 = ap (λ (x : Part). x .start) (b .value) in
-    omega (arith, b .end, b .within)
+use Rattle.netaddr.specs.declared.address.Address.{Address}
+use Rattle.device_version.specs.declared.version.Version.{Version}
 
 -- ---- the faults, front to back
 

@@ -8,23 +8,11 @@ use Rattle.xdr.specs.Res.{Res, ok, no}
 use Rattle.xdr.specs.declared.number.ReadU32.{ReadU32}
 use Rattle.xdr.specs.declared.number.ReadU32.the-variants as u32
 use Rattle.device.specs.Bodies.{Device, Listed}
-use Rattle.device.specs.declared.address.Address.{Address}
-use Rattle.device.specs.declared.address.ReadAddress.{ReadAddress}
-use Rattle.device.specs.declared.address.ReadAddress.the-variants as address
-use Rattle.device.specs.declared.version.Version.{Version}
-use Rattle.device.specs.declared.version.ReadVersion.{ReadVersion}
-use Rattle.device.specs.declared.version.ReadVersion.the-variants as version
+use Rattle.netaddr.specs.declared.address.Address.{Address}
+use Rattle.device_version.specs.declared.version.Version.{Version}
 use Rattle.device.specs.declared.body.DeviceAnswer.{DeviceAnswer}
 use Rattle.device.specs.declared.body.DeviceAnswer.the-variants as device
 use Rattle.device.specs.declared.body.DeviceRead.{DeviceRead}
-
-abbrev pub resAddress : ReadAddress → Res Address
-resAddress (address.Value a c) = ok a (c .at)
-resAddress (address.Refused e) = no (numberOf e)
-
-abbrev pub resVersion : ReadVersion → Res Version
-resVersion (version.Value v c) = ok v (c .at)
-resVersion (version.Refused e) = no (numberOf e)
 
 -- of a list, the answer is the count; the places stand beside it
 abbrev pub resList : {A : Type 0} → List A → ReadU32 → Res (Listed A)
@@ -40,14 +28,6 @@ abbrev pub deviceAnswer : DeviceRead → Answer Device
 deviceAnswer r = deviceOf (r .answer) (r .addresses) (r .versions)
 
 -- The refusal in an answer; of an answer with a value, the first of the refusals.
-abbrev pub whyAddress : ReadAddress → Refusal
-whyAddress (address.Value a c) = BytesRunOut
-whyAddress (address.Refused e) = e
-
-abbrev pub whyVersion : ReadVersion → Refusal
-whyVersion (version.Value v c) = BytesRunOut
-whyVersion (version.Refused e) = e
-
 abbrev pub whyDevice : DeviceAnswer → Refusal
 whyDevice (device.Counts m n) = BytesRunOut
 whyDevice (device.Refused e) = e

@@ -7,10 +7,10 @@ use Rattle.base.specs.Answer.{Answer, accepted, refused, pick}
 use Rattle.base.specs.Lists.{padded}
 use Rattle.xdr.specs.Res.{Res, ok, then, manyAt, whole}
 use Rattle.xdr.specs.Items.{countAt}
-use Rattle.device.specs.Addresses.{addressAt, blankAddress}
-use Rattle.device.specs.Versions.{versionAt, blankVersion}
-use Rattle.device.specs.declared.address.Address.{Address}
-use Rattle.device.specs.declared.version.Version.{Version}
+use Rattle.netaddr.specs.Addresses.{addressAt, blankAddress}
+use Rattle.device_version.specs.Versions.{versionAt, blankVersion}
+use Rattle.netaddr.specs.declared.address.Address.{Address}
+use Rattle.device_version.specs.declared.version.Version.{Version}
 
 -- how many items there are, and 8 places: the items first, the others blank
 pub record Listed (A : Type 0) : Type 0 where

@@ -1,14 +1,14 @@
 // The whole device body: a list of addresses, then a list of versions.
-use crate::address::Address;
-use crate::address::ReadAddress;
-use crate::address::read_address;
-use crate::address::why_address;
-use crate::netid::NetidClass;
-use crate::version::ReadVersion;
-use crate::version::Version;
-use crate::version::read_version;
-use crate::version::why_version;
 use base::Refusal;
+use device_version::ReadVersion;
+use device_version::Version;
+use device_version::read_version;
+use device_version::why_version;
+use netaddr::Address;
+use netaddr::NetidClass;
+use netaddr::ReadAddress;
+use netaddr::read_address;
+use netaddr::why_address;
 use xdr::Cursor;
 use xdr::Part;
 use xdr::ReadU32;
@@ -16,8 +16,8 @@ ghost use mathlib.Core.Path.{_≡_};
 ghost use lib.ListN.{replicate};
 ghost use Rattle.base.specs.Answer.{refused};
 ghost use Rattle.base.specs.Refusals.{numberOf};
-ghost use Rattle.device.specs.Addresses.{addressAt, blankAddress};
-ghost use Rattle.device.specs.Versions.{versionAt, blankVersion};
+ghost use Rattle.netaddr.specs.Addresses.{addressAt, blankAddress};
+ghost use Rattle.device_version.specs.Versions.{versionAt, blankVersion};
 ghost use Rattle.device.specs.Bodies.{listAt, deviceBody, addressesIn, versionsIn};
 ghost use Rattle.device.specs.Answers.{resList, deviceAnswer, whyDevice};
 

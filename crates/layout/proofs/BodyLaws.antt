@@ -1,13 +1,13 @@
 -- Laws of the whole body: its length is tested first, and a fault met on the way is the answer.
 use Prim.Native.Nat.{ℕ, _≤_, _<_}
-use mathlib.Core.Path.{_≡_, refl, sym, ap, _∙_}
+use mathlib.Core.Path.{_≡_}
 use mathlib.Core.List.{List}
 use borrow.Author.Tests.{le-leb, lt-leb, eq-eqb, ne-eqb}
 use lib.ListN.{length, replicate}
 use Rattle.base.specs.Answer.{Answer, accepted, refused, pick}
 use Rattle.base.specs.Refusals.{numberOf}
 use Rattle.base.specs.declared.refusal.Refusal.{Refusal}
-use Rattle.xdr.specs.Res.{Res, ok, no, then, whole}
+use Rattle.xdr.specs.Res.{ok, no, then, whole}
 use Rattle.server.specs.declared.item.Server.{Server}
 use Rattle.layout.specs.Layouts.{Layout, frontAt, layoutAt, layoutBody, mirrorsAt, startsOf, tailAt}
 use Rattle.layout.specs.declared.ends.Front.{Front}

@@ -1,11 +1,11 @@
 -- What holds of the front of a body that was read: its limits, and that unit and first server count agree.
 use Prim.Native.Nat.{ℕ, _≤_}
-use mathlib.Core.Path.{_≡_, refl, sym, ap, _∙_}
+use mathlib.Core.Path.{_≡_, sym, ap, _∙_}
 use mathlib.Core.Bool.{true}
 use mathlib.Core.List.{List}
 use native.Mathlib.Omega.{arith}
 use lib.ListN.{length}
-use Rattle.xdr.specs.Res.{ok, then}
+use Rattle.xdr.specs.Res.{ok}
 use Rattle.xdr.proofs.Accepted.{count-read, passed, ran, same-place, same-value}
 use Rattle.layout.specs.Layouts.{frontAt, unitFits}
 use Rattle.layout.specs.declared.ends.Front.{Front}

@@ -5,23 +5,22 @@ use mathlib.Core.Logic.{_⊎_, ⊎-elim}
 use mathlib.Core.Bool.{Bool, true, false}
 use mathlib.Core.List.{List, [], _∷_, _++_, map}
 use native.Mathlib.Omega.{arith}
-use borrow.Author.Tests.{eqb-true, leb-true}
+use borrow.Author.Tests.{eqb-true}
 use lib.Dec.{eqb}
-use lib.ListN.{length, getD, replicate, length-append, length-map, length-replicate, getD-replicate, List·getD-append, List·getD-map, List·getD-eq-default}
+use lib.ListN.{length, getD, replicate, length-append, length-map, length-replicate, List·getD-append, List·getD-eq-default}
 use lib.Seq.{getD-append-add}
 use Rattle.base.specs.Answer.{Answer, accepted, refused, pick}
 use Rattle.base.specs.Lists.{padded}
-use Rattle.xdr.specs.Res.{Res, ok, no, then, manyAt, whole}
-use Rattle.xdr.specs.declared.Part.{Part}
+use Rattle.xdr.specs.Res.{Res, ok, no, manyAt, whole}
 use Rattle.xdr.proofs.Accepted.{passed, ran, same-place, same-value}
 use Rattle.server.specs.Servers.{serverAt}
 use Rattle.server.specs.declared.item.Server.{Server}
-use Rattle.server.proofs.ServerLaws.{Read, server-read}
+use Rattle.server.proofs.ServerLaws.{server-read}
 use Rattle.layout.specs.Layouts.{Layout, frontAt, layoutAt, layoutBody, mirrorAt, mirrorsAt, rows, startsOf, tailAt, unitFits}
 use Rattle.layout.specs.declared.ends.Front.{Front}
 use Rattle.layout.specs.declared.ends.Tail.{Tail}
-use Rattle.layout.proofs.FrontLaws.{FrontRead, front-read}
-use Rattle.layout.proofs.TableLaws.{EachHas, Rows, mirrors-have}
+use Rattle.layout.proofs.FrontLaws.{front-read}
+use Rattle.layout.proofs.TableLaws.{EachHas, mirrors-have}
 
 -- ---- the parts of an accepted body
 

@@ -1,12 +1,12 @@
 -- The table that the loops fill, started from zeros, is the definition's: rows of 16 places a mirror, then zeros.
-use Prim.Native.Nat.{ℕ, zero, suc, _+_, _-_, _*_, _≤_, _<_}
+use Prim.Native.Nat.{ℕ, zero, suc, _+_, _-_, _*_, _≤_}
 use mathlib.Core.Path.{_≡_, refl, sym, ap, _∙_}
 use mathlib.Core.List.{List, [], _∷_, _++_, map, append-assoc}
 use native.Mathlib.Omega.{arith}
-use lib.ListN.{length, drop, take, replicate, length-append, length-map, length-replicate, replicate-append-replicate}
+use lib.ListN.{length, drop, replicate, length-append, length-map, length-replicate, replicate-append-replicate}
 use lib.Seq.{sets, sets-eq, take-append-seam, drop-append-add}
 use Rattle.base.specs.Lists.{padded}
-use Rattle.xdr.specs.Res.{Res, ok, no, then, manyAt}
+use Rattle.xdr.specs.Res.{Res, ok, no, manyAt}
 use Rattle.xdr.proofs.Accepted.{many-length, passed, ran, same-value}
 use Rattle.server.specs.Servers.{serverAt}
 use Rattle.server.specs.declared.item.Server.{Server}

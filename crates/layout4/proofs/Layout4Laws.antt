@@ -1,6 +1,6 @@
 -- Laws of a whole layout4: each fault met on the way is the answer.
 use Prim.Native.Nat.{ℕ, _+_, _≤_}
-use mathlib.Core.Path.{_≡_, refl, sym, ap, _∙_}
+use mathlib.Core.Path.{_≡_, refl}
 use mathlib.Core.Bool.{Bool, true, false}
 use mathlib.Core.List.{List}
 use native.Mathlib.Omega.{arith}
@@ -11,7 +11,7 @@ use Rattle.base.specs.Answer.{Answer, accepted, refused, pick}
 use Rattle.base.specs.Refusals.{numberOf}
 use Rattle.base.specs.declared.refusal.Refusal.{Refusal}
 use Rattle.numbers.specs.Numbers.{bytesFrom}
-use Rattle.xdr.specs.Res.{Res, ok, no, then, inside, whole}
+use Rattle.xdr.specs.Res.{ok, no, then, inside, whole}
 use Rattle.xdr.specs.Items.{bytesAt, padding}
 use Rattle.xdr.specs.declared.Part.{Part}
 use Rattle.layout.specs.Layouts.{Layout, layoutBody}

@@ -2,11 +2,11 @@
 use Prim.Native.Nat.{ℕ, suc, _+_, _≤_, _<_, min}
 use mathlib.Core.Path.{_≡_, refl, sym, ap, _∙_}
 use mathlib.Core.Bool.{Bool, true, false, _&&_, _||_}
-use mathlib.Core.List.{List, [], _∷_, map}
+use mathlib.Core.List.{List, _∷_, map}
 use native.Mathlib.Numerals.{add-one}
 use native.Mathlib.Omega.{arith}
 use lib.Dec.{leb}
-use lib.ListN.{length, take, drop, getD, drop-of-length-le, length-map, length-take}
+use lib.ListN.{length, drop, getD, drop-of-length-le, length-map, length-take}
 use lib.Seq.{drop-cons, getD-take}
 use Rattle.segments.specs.declared.Right.{Right}
 use Rattle.segments.specs.declared.Segment.{Segment}

@@ -1,16 +1,13 @@
 -- Laws of numbers as bytes, each over the width: the first byte and the rest, two parts, what is written is read back, what is read is written
 -- back.
-use Prim.Native.Nat.{ℕ, zero, suc, _+_, _-_, _*_, _/_, _%_, _^_, _≤_, _<_}
+use Prim.Native.Nat.{ℕ, zero, suc, _+_, _*_, _/_, _%_, _^_, _≤_, _<_}
 use mathlib.Core.Path.{_≡_, refl, sym, ap, _∙_}
 use mathlib.Core.List.{List, [], _∷_, _++_}
-use native.Mathlib.Nat.{pow-suc, add-mul, mul-assoc, mul-comm, div-add-mod', div-lt-iff-lt-mul, mul-add-div-right, mul-add-mod-self-right}
-use native.Mathlib.Numerals.{add-one}
+use native.Mathlib.Nat.{pow-suc, add-mul, mul-assoc, mul-comm, div-add-mod', div-lt-iff-lt-mul}
 use native.Mathlib.Omega.{arith}
-use borrow.Author.Tests.{le-leb, lt-leb}
 use lib.ListN.{length, take, drop, getD, length-append, length-take, length-drop}
 use lib.Seq.{drop-cons, take-add, take-all, take-suc, drop-drop, getD-drop}
-use Rattle.base.specs.Answer.{pick}
-use Rattle.numbers.specs.Numbers.{AllBytes, bytesFrom, beFrom, beValue, beBytes, leValue, leBytes, beAt, leAt}
+use Rattle.numbers.specs.Numbers.{AllBytes, bytesFrom, beFrom, beValue, beBytes, leValue, leBytes}
 
 -- ---- bytes of a list
 

@@ -1,8 +1,7 @@
--- Numbers as bytes, for every width, in both byte orders; runs of bytes compared, and stored into a buffer.
+-- Numbers as bytes, for every width, in both byte orders; runs of bytes compared.
 use Prim.Native.Nat.{ℕ, zero, suc, _+_, _*_, _/_, _%_, _<_}
 use mathlib.Core.List.{List, [], _∷_, _++_}
 use lib.ListN.{length, take, drop, getD}
-use lib.Seq.{sets}
 use mathlib.Core.Bool.{Bool, true, false, _&&_}
 use lib.Dec.{leb, eqb}
 use Rattle.base.specs.Answer.{pick}
@@ -45,10 +44,6 @@ beAt k s at = pick (leb (at + k) (length s)) (beValue (bytesFrom k s at)) 0
 
 unfoldable pub leAt : ℕ → List ℕ → ℕ → ℕ
 leAt k s at = pick (leb (at + k) (length s)) (leValue (bytesFrom k s at)) 0
-
--- the buffer l with the bytes bs from a place on; as it was where they do not fit
-unfoldable pub stored : List ℕ → ℕ → List ℕ → List ℕ
-stored l at bs = pick (leb (at + length bs) (length l)) (sets l at bs) l
 
 unfoldable pub sameBytes : List ℕ → List ℕ → Bool
 sameBytes [] [] = true

@@ -16,46 +16,9 @@ use Rattle.segments.specs.Segments.{Mode, emptyTable, listIn, rightAt}
 use Rattle.segments.proofs.Canon.{Below, Canon, at-in, at-past, canon-under}
 use Rattle.segments.proofs.ScanLaws.{segments-below, segments-past}
 use Rattle.store.specs.Store.{Slot, empty, slotBytes, storeOf}
-use Rattle.reference.specs.Model.{
-  none,
-  Event,
-  Model,
-  Order,
-  act,
-  afterAt,
-  answerTo,
-  answers,
-  ifAccepted,
-  modelAfter,
-  own,
-  run,
-  segmentsIn,
-  start,
-  tableOf,
-  verdict,
-  withSlot,
-}
+use Rattle.reference.specs.Model.{none, Event, Model, Order, act, afterAt, answerTo, answers, ifAccepted, modelAfter, own, run, segmentsIn, start, tableOf, verdict, withSlot}
 use Rattle.reference.specs.Sound.{slotsIn}
-use Rattle.reference.specs.Claim.{
-  Agreed,
-  AllFit,
-  Calls,
-  Confined,
-  Demand3,
-  EachConfined,
-  Fits,
-  Left,
-  Ordered,
-  Showing,
-  acceptedOf,
-  answered,
-  inReach,
-  rightGiven,
-  rightIn,
-  storeLeft,
-  tableLeft,
-  withBody,
-}
+use Rattle.reference.specs.Claim.{Agreed, AllFit, Calls, Confined, Demand3, EachConfined, Fits, Left, Ordered, Showing, acceptedOf, answered, inReach, rightGiven, rightIn, storeLeft, tableLeft, withBody}
 use Rattle.reference.proofs.Laws.{run-right}
 use Rattle.reference.proofs.Bodies.{fewest-showing}
 use Rattle.reference.proofs.Inv.{Inv, after-keeps, no-segments, start-keeps}

@@ -1,5 +1,5 @@
 -- What holds of the model after every list of events.
-use Prim.Native.Nat.{ℕ, zero, suc, _≤_, _<_}
+use Prim.Native.Nat.{ℕ, zero, suc, _≤_}
 use mathlib.Core.Path.{_≡_, refl, sym, ap, _∙_}
 use mathlib.Core.Logic.{⊎-elim}
 use mathlib.Core.Bool.{Bool, true, false, _||_, false≢true, or-true}
@@ -18,43 +18,9 @@ use Rattle.segments.proofs.Canon.{Below, Canon, at-none}
 use Rattle.segments.proofs.Fewest.{scan-only}
 use Rattle.segments.proofs.ScanLaws.{any-some}
 use Rattle.store.specs.Store.{Body, Slot, empty, holds}
-use Rattle.reference.specs.Model.{
-  ByteRight,
-  none,
-  granted,
-  recalled,
-  Deed,
-  grants,
-  returns,
-  recalls,
-  revokes,
-  Model,
-  Order,
-  act,
-  afterAt,
-  anyByte,
-  covers,
-  ifAccepted,
-  ifNamed,
-  inSlots,
-  isUnder,
-  meets,
-  modelAfter,
-  placed,
-  refuse,
-  rightAfter,
-  segmentsIn,
-  slotOf,
-  start,
-  stops21,
-  stops22,
-  stops24,
-  stops25,
-  tooMany,
-  verdict,
-}
+use Rattle.reference.specs.Model.{ByteRight, none, granted, recalled, Deed, grants, returns, recalls, revokes, Model, Order, act, afterAt, anyByte, covers, ifAccepted, ifNamed, inSlots, isUnder, meets, modelAfter, placed, refuse, rightAfter, segmentsIn, start, stops21, stops22, stops24, stops25, tooMany, verdict}
 use Rattle.reference.specs.Sound.{isAccepted, noTwoAlike}
-use Rattle.reference.proofs.SlotLaws.{emptied-apart, emptied-held, granted-in, empty-holds, in-small, named-in, placed-apart, placed-held, placed-in, placed-length}
+use Rattle.reference.proofs.SlotLaws.{emptied-apart, emptied-held, granted-in, empty-holds, named-in, placed-apart, placed-held, placed-in, placed-length}
 
 -- ---- bodies that an event may bring
 

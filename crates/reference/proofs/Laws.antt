@@ -4,21 +4,7 @@ use mathlib.Core.Path.{_≡_, refl, sym, ap, _∙_}
 use mathlib.Core.List.{List, [], _∷_, _++_}
 use Rattle.base.specs.Answer.{Answer, accepted, refused}
 use Rattle.segments.specs.Segments.{Mode}
-use Rattle.reference.specs.Model.{
-  ByteRight,
-  Event,
-  Model,
-  Order,
-  act,
-  afterAt,
-  answerTo,
-  answers,
-  ifAccepted,
-  modelAfter,
-  own,
-  run,
-  verdict,
-}
+use Rattle.reference.specs.Model.{ByteRight, Event, Model, Order, act, afterAt, answerTo, answers, ifAccepted, modelAfter, own, run, verdict}
 use Rattle.reference.specs.Claim.{acceptedOf, orderOf, rightGiven}
 
 given-append : (os ps : List Order) (m : Mode) (x : ℕ) (r : ByteRight) → rightGiven (os ++ ps) m x r ≡ rightGiven ps m x (rightGiven os m x r)

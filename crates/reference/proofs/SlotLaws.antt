@@ -5,31 +5,15 @@ use mathlib.Core.Logic.{_⊎_, inl, inr, ⊎-elim}
 use mathlib.Core.Bool.{Bool, true, false, not, _&&_, _||_, false≢true, or-true}
 use mathlib.Core.List.{List, [], _∷_, map}
 use native.Mathlib.Omega.{arith}
-use borrow.Author.Tests.{eq-eqb, not-true}
-use lib.ListN.{length, getD, set}
+use borrow.Author.Tests.{not-true}
+use lib.ListN.{length, getD}
 use Rattle.base.specs.Answer.{pick}
 use Rattle.numbers.specs.Numbers.{sameBytes}
 use Rattle.numbers.proofs.SameLaws.{same-not, same-other, same-refl, same-true}
 use Rattle.xdr.proofs.Accepted.{both}
 use Rattle.segments.specs.Segments.{Mode}
 use Rattle.store.specs.Store.{Body, Slot, empty, holds}
-use Rattle.reference.specs.Model.{
-  ByteRight,
-  Deed,
-  grants,
-  returns,
-  recalls,
-  revokes,
-  anyByte,
-  ifNamed,
-  inLowest,
-  inSlots,
-  isUnder,
-  noneEmpty,
-  placed,
-  slotOf,
-  stops24,
-}
+use Rattle.reference.specs.Model.{ByteRight, Deed, grants, returns, recalls, revokes, anyByte, ifNamed, inLowest, inSlots, isUnder, noneEmpty, placed, slotOf, stops24}
 use Rattle.reference.specs.Sound.{noTwoAlike}
 
 -- ---- bodies and slots that are alike

@@ -1,7 +1,7 @@
 -- Demand 3, stated of any calls on table and body store.
-use Prim.Native.Nat.{ℕ, zero, suc, _≤_, _<_, _^_}
+use Prim.Native.Nat.{ℕ, suc, _≤_, _<_, _^_}
 use mathlib.Core.Path.{_≡_}
-use mathlib.Core.Bool.{Bool, true, false}
+use mathlib.Core.Bool.{Bool, false}
 use mathlib.Core.List.{List, [], _∷_, _++_}
 use lib.ListN.{length, replicate, getD}
 use Rattle.base.specs.Answer.{Answer, accepted, refused}
@@ -13,27 +13,7 @@ use Rattle.segments.specs.declared.Segment.{Segment}
 use Rattle.segments.specs.declared.Table.{Table}
 use Rattle.segments.specs.Segments.{Mode, emptyTable, listIn, rightAt}
 use Rattle.store.specs.Store.{Slot, empty, holds, storeOf, Body}
-use Rattle.reference.specs.Model.{
-  ByteRight,
-  none,
-  granted,
-  recalled,
-  Model,
-  start,
-  Event,
-  Grant,
-  Return,
-  Recall,
-  Revoke,
-  Order,
-  own,
-  covers,
-  afterAt,
-  ifAccepted,
-  answers,
-  run,
-  tableOf,
-}
+use Rattle.reference.specs.Model.{ByteRight, none, granted, recalled, Model, start, Event, Grant, Return, Recall, Revoke, Order, own, covers, afterAt, ifAccepted, answers, run, tableOf}
 use Rattle.reference.specs.Sound.{slotsIn}
 
 -- what a call comes to: its answer (0 for accepted), and the table and the store that it leaves

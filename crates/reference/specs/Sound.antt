@@ -1,19 +1,19 @@
 -- Soundness of a table and a body store, whatever they are: "20: table or shelf is unsound".
-use Prim.Native.Nat.{ℕ, zero, suc, _+_, _*_}
+use Prim.Native.Nat.{ℕ, zero, suc, _+_}
 use mathlib.Core.Bool.{Bool, true, false, not, _&&_}
 use mathlib.Core.List.{List, [], _∷_}
 use lib.ListN.{length, drop}
 use lib.Dec.{leb, ltb, eqb}
 use Rattle.base.specs.Answer.{Answer, accepted, refused, pick}
 use Rattle.xdr.specs.Items.{allZero}
-use Rattle.layout.specs.Layouts.{Layout, layoutBody}
+use Rattle.layout.specs.Layouts.{layoutBody}
 use Rattle.segments.specs.declared.Right.{Right}
 use Rattle.segments.specs.declared.Right.the-variants.{None, Granted, Recalled}
 use Rattle.segments.specs.declared.Segment.{Segment}
 use Rattle.segments.specs.declared.Segments.{Segments}
 use Rattle.segments.specs.declared.Table.{Table}
 use Rattle.segments.specs.Segments.{isNamed, listOf, sameRight}
-use Rattle.store.specs.Store.{Body, Slot, empty, holds, bodyIn, kindIn, lengthIn, slotAt}
+use Rattle.store.specs.Store.{Slot, empty, holds, bodyIn, kindIn, lengthIn, slotAt}
 use Rattle.reference.specs.Model.{inSlots}
 
 -- ---- segments

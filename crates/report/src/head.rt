@@ -12,7 +12,7 @@ use xdr::ReadU64;
 ghost use mathlib.Core.Path.{_≡_};
 ghost use Prim.Native.Nat.{_+_, _≤_};
 ghost use lib.ListN.{length};
-ghost use Rattle.base.specs.Ranges.{answerOfLast, rangeLast, whyLast};
+ghost use Rattle.base.specs.Ranges.{answerOfLast, rangeLast};
 ghost use Rattle.numbers.specs.Numbers.{bytesFrom};
 ghost use Rattle.report.specs.Reports.{headAt, reportAt};
 ghost use Rattle.report.specs.Answers.{headFrom, resHead, resReport, whyHead, whyReport};

@@ -10,9 +10,10 @@ use lib.Dec.{eqb, leb}
 use lib.ListN.{length, take, drop, length-append}
 use lib.Seq.{length-take-le, sets, sets-eq, length-sets}
 use Rattle.base.specs.Answer.{Answer, accepted, refused, given, pick}
-use Rattle.numbers.specs.Numbers.{beAt, beBytes, beValue, bytesFrom, stored}
+use Rattle.buffers.specs.Buffers.{stored}
+use Rattle.numbers.specs.Numbers.{beAt, beBytes, beValue, bytesFrom}
 use Rattle.numbers.proofs.NumberLaws.{length-be, length-bytes}
-use Rattle.numbers.proofs.StoreLaws.{fits-stored, length-stored, sets-append, stored-then}
+use Rattle.buffers.proofs.StoredLaws.{fits-stored, length-stored, sets-append, stored-then}
 use Rattle.xdr.proofs.Accepted.{both}
 use Rattle.report.specs.Reports.{errorFits}
 use Rattle.report.specs.declared.ReportHead.{ReportHead}

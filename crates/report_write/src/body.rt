@@ -42,8 +42,8 @@ pub fn write_reports(
     if out.len() < size {
         return Written::Refused(Refusal::OutputTooShort);
     }
-    numbers::put_be4(out, 0, count);
+    buffers::put_be4(out, 0, count);
     put_reports(out, heads, n, errors);
-    numbers::put_be4(out, size - 4, 0);
+    buffers::put_be4(out, size - 4, 0);
     Written::Length(size)
 }

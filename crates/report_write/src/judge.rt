@@ -6,7 +6,6 @@ ghost use mathlib.Core.Path.{_≡_};
 ghost use Prim.Native.Nat.{_+_, _≤_};
 ghost use lib.ListN.{length, take};
 ghost use mathlib.Core.Bool.{true};
-ghost use Rattle.base.specs.Ranges.{whyLast};
 ghost use Rattle.report_write.specs.Writing.{allFit, counts, judged, judgedOne, recordsFrom, stateidsWhole};
 ghost use Rattle.report_write.specs.Answers.{answerJudged, whyJudged};
 

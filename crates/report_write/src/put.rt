@@ -4,7 +4,7 @@ ghost use mathlib.Core.Path.{_≡_};
 ghost use Prim.Native.Nat.{_+_, _*_, _≤_};
 ghost use lib.ListN.{length, take};
 ghost use lib.Seq.{sets};
-ghost use Rattle.numbers.specs.Numbers.{stored};
+ghost use Rattle.buffers.specs.Buffers.{stored};
 ghost use Rattle.report_write.specs.Writing.{counts, errorBytes, errorsBytes, headBytes, recordsFrom, reportsBytes};
 
 // One wire record: the device id, which has 16 bytes where it is one, then status and operation. Where it does not fit, the buffer stays as it was.
@@ -22,9 +22,9 @@ pub fn put_error(buf: &mut [u8], at: usize, device: &[u8], status: u32, operatio
     if room - n < 8 {
         return;
     }
-    numbers::put_bytes(buf, at, device);
-    numbers::put_be4(buf, at + n, status);
-    numbers::put_be4(buf, at + n + 4, operation);
+    buffers::put_bytes(buf, at, device);
+    buffers::put_be4(buf, at + n, status);
+    buffers::put_be4(buf, at + n + 4, operation);
 }
 
 // The n records from the first on.
@@ -52,10 +52,10 @@ fn put_head(out: &mut [u8], at: usize, head: ReportHead)
     ensures { λ r. ⌜ (now (out .exit) ≡ sets (now (out .entry)) at (headBytes head)) × (length (head .stateid) ≡ 16) ⌝ }
 {
     let stateid = head.stateid;
-    numbers::put_be8(out, at, head.offset);
-    numbers::put_be8(out, at + 8, head.length);
-    numbers::put_bytes(out, at + 16, &stateid);
-    numbers::put_be4(out, at + 32, head.errors);
+    buffers::put_be8(out, at, head.offset);
+    buffers::put_be8(out, at + 8, head.length);
+    buffers::put_bytes(out, at + 16, &stateid);
+    buffers::put_be4(out, at + 32, head.errors);
 }
 
 // The reports in order, from place 4 on.

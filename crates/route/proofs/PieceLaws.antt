@@ -17,19 +17,7 @@ use Rattle.reference.specs.Sound.{sound}
 use Rattle.route.specs.Routes.{Serving, layoutIn, pieceAt, routed, served}
 use Rattle.route.specs.Stripes.{pieceLength}
 use Rattle.route.specs.declared.piece.Piece.{Piece}
-use Rattle.route.proofs.ServedLaws.{
-  gave,
-  grant-found,
-  iomodeFor,
-  never-accepted,
-  never-refused,
-  request-refused,
-  same-answer,
-  same-refusal,
-  served-limits,
-  served-refused,
-  what-serves,
-}
+use Rattle.route.proofs.ServedLaws.{gave, grant-found, iomodeFor, never-accepted, never-refused, request-refused, same-answer, same-refusal, served-limits, served-refused, what-serves}
 use Rattle.route.proofs.StripeLaws.{piece-in-len, piece-in-rest, piece-in-unit-rest, piece-some, same-unit}
 
 -- ---- a request's answer by parts

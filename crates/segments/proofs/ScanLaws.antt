@@ -12,21 +12,7 @@ use Rattle.segments.specs.declared.Right.{Right}
 use Rattle.segments.specs.declared.Right.the-variants.{None, Granted, Recalled}
 use Rattle.segments.specs.declared.Segment.{Segment}
 use Rattle.segments.specs.Segments.{anyBelow, inFront, rightAt, sameRight, scan, segmentsOf, withByte}
-use Rattle.segments.proofs.Canon.{
-  Canon,
-  Below,
-  at-in,
-  at-past,
-  below-more,
-  below-past,
-  canon-after,
-  canon-less,
-  canon-under,
-  granted-some,
-  recalled-some,
-  same-right-false,
-  same-right-true,
-}
+use Rattle.segments.proofs.Canon.{Canon, Below, at-in, at-past, below-more, below-past, canon-after, canon-less, canon-under, granted-some, recalled-some, same-right-false, same-right-true}
 
 -- ---- a test over the bytes
 

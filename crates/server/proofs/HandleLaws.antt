@@ -1,7 +1,7 @@
 -- Laws of the place behind several filehandles.
 use Prim.Native.Nat.{ℕ, zero, suc, _-_, _<_}
-use mathlib.Core.Path.{_≡_, refl, sym, ap, _∙_}
-use mathlib.Core.List.{List, [], _∷_}
+use mathlib.Core.Path.{_≡_, refl}
+use mathlib.Core.List.{List, _∷_}
 use native.Mathlib.Omega.{arith}
 use Rattle.xdr.specs.Res.{Res, ok, no, then, manyAt}
 use Rattle.xdr.specs.Items.{opaqueAt}

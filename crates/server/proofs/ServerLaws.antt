@@ -1,14 +1,14 @@
 -- What stands at the start of a data server that was read, and that it ends inside the bytes.
 use Prim.Native.Nat.{ℕ, _+_, _≤_}
-use mathlib.Core.Path.{_≡_, refl, sym, ap, _∙_}
+use mathlib.Core.Path.{_≡_, sym, ap, _∙_}
 use mathlib.Core.List.{List}
 use native.Mathlib.Omega.{arith}
 use lib.ListN.{length}
 use Rattle.numbers.specs.Numbers.{bytesFrom, beValue}
-use Rattle.xdr.specs.Res.{Res, ok, then}
+use Rattle.xdr.specs.Res.{ok}
 use Rattle.xdr.specs.declared.Part.{Part}
-use Rattle.xdr.proofs.Accepted.{ran, same-place, same-value, number-read, count-read, bytes-read, opaque-read, many-within}
-use Rattle.server.specs.Servers.{headAt, handlesAt, serverAt}
+use Rattle.xdr.proofs.Accepted.{ran, same-place, same-value, number-read, count-read, bytes-read, opaque-read}
+use Rattle.server.specs.Servers.{headAt, serverAt}
 use Rattle.server.specs.declared.head.ServerHead.{ServerHead}
 use Rattle.server.specs.declared.item.Server.{Server}
 

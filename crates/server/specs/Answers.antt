@@ -1,5 +1,4 @@
 -- What the answers of the data server's readers say.
-use Prim.Native.Nat.{ℕ}
 use Rattle.base.specs.Refusals.{numberOf}
 use Rattle.base.specs.declared.refusal.Refusal.{Refusal}
 use Rattle.base.specs.declared.refusal.Refusal.the-variants.{BytesRunOut}

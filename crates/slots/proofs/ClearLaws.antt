@@ -1,14 +1,14 @@
 -- A store whose unnamed slots are cleared one after the other is that of the slots with those emptied.
-use Prim.Native.Nat.{ℕ, zero, suc, _+_, _<_}
+use Prim.Native.Nat.{ℕ, zero, suc, _+_}
 use mathlib.Core.Path.{_≡_, refl, sym, ap, subst, _∙_}
 use mathlib.Core.Bool.{Bool, true, false, not, _&&_}
-use mathlib.Core.List.{List, [], _∷_, _++_, append-assoc}
+use mathlib.Core.List.{List, [], _∷_, _++_}
 use native.Mathlib.Omega.{arith}
 use lib.ListN.{length, set, length-append}
 use Rattle.base.specs.Answer.{pick}
 use Rattle.segments.specs.declared.Table.{Table}
 use Rattle.segments.specs.Segments.{isNamed}
-use Rattle.store.specs.Store.{Slot, empty, holds, slotSet, storeOf}
+use Rattle.store.specs.Store.{Slot, empty, slotSet, storeOf}
 use Rattle.store.proofs.SlotLaws.{length-empty}
 use Rattle.store.proofs.StoreLaws.{AllWhole, set-slot}
 use Rattle.slots.specs.Slots.{clearedFrom}

@@ -1,8 +1,8 @@
 -- A walk over the eight slots: what is left to look at, and what is found on the way.
-use Prim.Native.Nat.{ℕ, zero, suc, _+_, _-_, _≤_, _<_}
-use mathlib.Core.Path.{_≡_, refl, sym, ap, _∙_}
-use mathlib.Core.Bool.{Bool, true, false, not, _&&_, _||_}
-use mathlib.Core.List.{List, [], _∷_}
+use Prim.Native.Nat.{ℕ, suc, _+_, _-_, _≤_, _<_}
+use mathlib.Core.Path.{_≡_, refl, ap, _∙_}
+use mathlib.Core.Bool.{Bool, true, false, not, _&&_}
+use mathlib.Core.List.{List, _∷_}
 use native.Mathlib.Omega.{arith}
 use Rattle.base.specs.Answer.{pick}
 use Rattle.numbers.specs.Numbers.{sameBytes}
@@ -11,7 +11,6 @@ use Rattle.segments.specs.Segments.{isNamed}
 use Rattle.store.specs.Store.{Body, Slot, empty, holds, bodyIn, slotAt, slotSet}
 use Rattle.reference.specs.Model.{inSlots, noneEmpty, slotOf}
 use Rattle.reference.specs.Sound.{slotsFrom, slotsIn}
-use Rattle.slots.specs.declared.home.Home.{Home}
 use Rattle.slots.specs.declared.home.Home.the-variants.{Old, New, Nowhere}
 use Rattle.slots.specs.Slots.{clearedFrom, emptyHome, homeOf, lowestEmpty}
 

@@ -1,6 +1,6 @@
 -- Where a granted body goes, and the slots that no segment names any more.
 use Prim.Native.Nat.{ℕ, zero, suc}
-use mathlib.Core.Bool.{Bool, true, false, not, _&&_}
+use mathlib.Core.Bool.{not, _&&_}
 use mathlib.Core.List.{List, [], _∷_}
 use Rattle.base.specs.Answer.{pick}
 use Rattle.segments.specs.declared.Table.{Table}

@@ -1,16 +1,15 @@
 -- Laws of a slot laid out anew: when the store stays as it was, and that the parts of a slot laid one behind the other are the slot.
 use Prim.Native.Nat.{ℕ, _+_, _-_, _*_, _≤_, _<_}
-use mathlib.Core.Path.{_≡_, refl, sym, ap, _∙_}
-use mathlib.Core.Bool.{Bool, true, false}
+use mathlib.Core.Path.{_≡_, refl, sym, _∙_}
 use mathlib.Core.List.{List, _++_}
 use native.Mathlib.Omega.{arith}
 use borrow.Author.Tests.{le-leb, lt-leb}
-use lib.Dec.{leb}
 use lib.ListN.{length, replicate, length-append, length-replicate}
 use Rattle.base.specs.Answer.{pick}
-use Rattle.numbers.specs.Numbers.{leBytes, stored}
+use Rattle.buffers.specs.Buffers.{stored}
+use Rattle.numbers.specs.Numbers.{leBytes}
 use Rattle.numbers.proofs.NumberLaws.{length-le}
-use Rattle.numbers.proofs.StoreLaws.{length-stored, stored-then, unfit-stored}
+use Rattle.buffers.proofs.StoredLaws.{length-stored, stored-then, unfit-stored}
 use Rattle.store.specs.Store.{Body, Slot, empty, holds, slotBytes, slotSet}
 use Rattle.store.proofs.SlotLaws.{length-empty, length-long, length-slot}
 

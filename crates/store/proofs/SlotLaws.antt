@@ -1,17 +1,17 @@
 -- Laws of one slot: how long it is, and that length, kind and body are read back from it, with zeros behind.
-use Prim.Native.Nat.{ℕ, _+_, _-_, _^_, _≤_, _<_}
+use Prim.Native.Nat.{ℕ, _+_, _-_, _≤_, _<_}
 use mathlib.Core.Path.{_≡_, refl, sym, ap, _∙_}
 use mathlib.Core.Bool.{true}
 use mathlib.Core.List.{List, _++_, append-assoc}
 use native.Mathlib.Omega.{arith}
 use borrow.Author.Tests.{le-leb}
-use lib.ListN.{length, take, drop, replicate, length-append, length-replicate}
+use lib.ListN.{length, drop, replicate, length-append, length-replicate}
 use lib.Seq.{take-at, drop-at}
 use Rattle.base.specs.Answer.{pick}
-use Rattle.numbers.specs.Numbers.{leAt, leBytes, leValue}
+use Rattle.numbers.specs.Numbers.{leAt, leBytes}
 use Rattle.numbers.proofs.NumberLaws.{le-round, length-le}
 use Rattle.xdr.specs.Items.{allZero}
-use Rattle.store.specs.Store.{Body, Slot, empty, holds, bodyIn, kindIn, lengthIn, slotBytes}
+use Rattle.store.specs.Store.{Body, empty, holds, bodyIn, kindIn, lengthIn, slotBytes}
 use Rattle.store.proofs.ZeroLaws.{zero-replicate}
 
 length-parts : (b : Body) → length (slotBytes (holds b)) ≡ 6 + (length b + (4090 - length b))

@@ -5,11 +5,11 @@ use mathlib.Core.List.{List, [], _∷_, _++_, append-assoc}
 use native.Mathlib.Omega.{arith}
 use borrow.Author.Tests.{le-leb}
 use lib.ListN.{length, take, drop, getD, set, length-append}
-use lib.Seq.{drop-append-add, drop-cons, set-split, sets, sets-eq, take-append-add, take-at}
+use lib.Seq.{drop-append-add, drop-cons, set-split, sets-eq, take-append-add, take-at}
 use Rattle.base.specs.Answer.{pick}
-use Rattle.numbers.specs.Numbers.{stored}
-use Rattle.numbers.proofs.StoreLaws.{fits-stored}
-use Rattle.store.specs.Store.{Slot, empty, holds, slotAt, slotBytes, slotSet, storeOf}
+use Rattle.buffers.specs.Buffers.{stored}
+use Rattle.buffers.proofs.StoredLaws.{fits-stored}
+use Rattle.store.specs.Store.{Slot, empty, slotAt, slotBytes, slotSet, storeOf}
 
 -- each slot fills its 4,096 bytes
 abbrev pub AllWhole : List Slot → Type 0

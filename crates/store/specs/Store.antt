@@ -4,7 +4,8 @@ use mathlib.Core.List.{List, [], _∷_, _++_}
 use lib.ListN.{length, replicate}
 use lib.Dec.{leb}
 use Rattle.base.specs.Answer.{pick}
-use Rattle.numbers.specs.Numbers.{bytesFrom, leAt, leBytes, stored}
+use Rattle.buffers.specs.Buffers.{stored}
+use Rattle.numbers.specs.Numbers.{bytesFrom, leAt, leBytes}
 
 abbrev pub Body : Type 0
 Body = List ℕ

@@ -18,14 +18,14 @@ pub fn lay_body(store: &mut [u8], i: SlotNumber, body: &[u8])
     if store.len() - at < 4096 {
         return;
     }
-    numbers::put_le4(store, at, n as u32);
-    numbers::put_le2(store, at + 4, 4);
-    numbers::put_bytes(store, at + 6, body);
-    numbers::put_zeros(store, at + 6 + n, 4090 - n);
+    buffers::put_le4(store, at, n as u32);
+    buffers::put_le2(store, at + 4, 4);
+    buffers::put_bytes(store, at + 6, body);
+    buffers::put_zeros(store, at + 6 + n, 4090 - n);
 }
 
 pub fn clear_slot(store: &mut [u8], i: SlotNumber)
     ensures { λ r. ⌜ now (store .exit) ≡ slotSet (now (store .entry)) (i .0) empty ⌝ }
 {
-    numbers::put_zeros(store, start(i), 4096);
+    buffers::put_zeros(store, start(i), 4096);
 }

@@ -14,15 +14,7 @@ use Rattle.table.specs.declared.change.Change.{Change}
 use Rattle.table.specs.declared.draft.Draft.{Draft}
 use Rattle.table.specs.Edits.{after, before, edited, editedIn, middle, parts, pushAll, pushSeg, touching}
 use Rattle.table.specs.Drafts.{Adds, Holds}
-use Rattle.table.proofs.PushLists.{
-  joined,
-  parts-next,
-  push-appends,
-  push-first,
-  push-joins,
-  pushAll-append,
-  pushSeg-keeps-length,
-}
+use Rattle.table.proofs.PushLists.{joined, parts-next, push-appends, push-first, push-joins, pushAll-append, pushSeg-keeps-length}
 
 -- the length of an array, from what is known of a parameter
 pub mapped-long {ℓ} : {A : Type 0} {B : Type ℓ} (f : A → B) (l : List A) (n : ℕ) → length (map f l) ≡ n → length l ≡ n

@@ -8,7 +8,7 @@ use segments::Segment;
 use segments::Segments;
 use segments::Table;
 ghost use mathlib.Core.Path.{_≡_};
-ghost use Prim.Native.Nat.{min, _≤_};
+ghost use Prim.Native.Nat.{_≤_};
 ghost use lib.ListN.{take};
 ghost use Rattle.table.specs.Edits.{editedIn, middle};
 ghost use Rattle.table.specs.Drafts.{Adds};

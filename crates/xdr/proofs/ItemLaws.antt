@@ -1,7 +1,7 @@
 -- Laws of the items: which bytes are enough.
 use Prim.Native.Nat.{ℕ, zero, suc, _+_, _-_, _≤_, _<_}
 use mathlib.Core.Path.{_≡_}
-use mathlib.Core.Bool.{true, false, _&&_}
+use mathlib.Core.Bool.{_&&_}
 use mathlib.Core.List.{List}
 use native.Mathlib.Numerals.{add-one}
 use native.Mathlib.Omega.{arith}
@@ -9,9 +9,9 @@ use borrow.Author.Tests.{le-leb, lt-leb}
 use lib.Dec.{eqb}
 use lib.ListN.{length, getD}
 use Rattle.base.specs.Answer.{pick}
-use Rattle.numbers.specs.Numbers.{beAt, beValue, bytesFrom}
+use Rattle.numbers.specs.Numbers.{beAt, bytesFrom}
 use Rattle.numbers.proofs.NumberLaws.{first-byte}
-use Rattle.xdr.specs.Res.{Res, ok, no}
+use Rattle.xdr.specs.Res.{ok, no}
 use Rattle.xdr.specs.Items.{allZero, numAt, bytesAt, padding}
 
 pub num-short : (k : ℕ) (s : List ℕ) (at : ℕ) → length s < at + k → numAt k s at ≡ no 1

@@ -1,6 +1,6 @@
 -- `claims::pieces_lie_in_granted_segments` is the law of the same content in `route`.
 use mathlib.Core.Path.{_≡_, refl, ap, _∙_}
-use mathlib.Core.Bool.{Bool, true}
+use mathlib.Core.Bool.{true}
 use Rattle.base.specs.declared.iomode.Iomode.{Iomode}
 use Rattle.segments.specs.Segments.{Mode, READ, RW, actsOn}
 use Rattle.route.proofs.PieceLaws.{piece-in-segment}

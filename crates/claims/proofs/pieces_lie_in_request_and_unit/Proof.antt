@@ -1,5 +1,4 @@
 -- `claims::pieces_lie_in_request_and_unit` is the law of the same content in `route`.
-use Prim.Native.Nat.{ℕ}
 use Rattle.route.proofs.PieceLaws.{piece-in-request, piece-in-unit}
 use Rattle.claims.proofs.pieces_lie_in_request_and_unit.Statement.{statement}
 use Rattle.claims.proofs.pieces_lie_in_request_and_unit.Tie as tie

@@ -2,7 +2,7 @@
 use borrow.Author.Needs.{needs}
 use borrow.Author.Tests.{le-leb, lt-leb}
 use native.Mathlib.Omega.{arith}
-use Prim.Native.Nat.{_+_, _-_, _≤_, _<_, _^_}
+use Prim.Native.Nat.{_+_, _-_, _^_}
 use mathlib.Core.Path.{_≡_, ap}
 use Rattle.base.specs.Answer.{pick, accepted}
 use Rattle.base.specs.Ranges.{requestLast}

@@ -1,8 +1,8 @@
 -- `binding::choice::choose` meets its contract. The loop's invariant: the entries passed are not supported, so what is left decides.
-use Prim.Native.Nat.{_+_, _-_, _≤_}
+use Prim.Native.Nat.{_-_, _≤_}
 use Rattle.base.specs.Answer.{pick}
 use Rattle.binding.proofs.BindingLaws.{chosen-next, chosen-none}
-use Rattle.binding.specs.Bindings.{chosenFrom, supports}
+use Rattle.binding.specs.Bindings.{chosenFrom}
 use borrow.Author.Needs.{needs}
 use lib.ListN.{drop, length, take}
 use mathlib.Core.Path.{_≡_, refl, sym, _∙_}

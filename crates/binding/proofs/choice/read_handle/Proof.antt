@@ -3,7 +3,7 @@ use Rattle.binding.specs.Bindings.{handleAt}
 use Rattle.server.proofs.HandleLaws.{end-refused, end-then}
 use Rattle.server.specs.Answers.{resEnd, whyEnd}
 use Rattle.xdr.proofs.Steps.{came, handed}
-use Rattle.xdr.specs.Res.{no, then}
+use Rattle.xdr.specs.Res.{no}
 use borrow.Author.Needs.{needs}
 use mathlib.Core.Path.{refl, sym, _∙_}
 use Rattle.binding.proofs.choice.read_handle.Statement.{statement}

@@ -1,5 +1,4 @@
 -- `binding::entry::bind_server` meets its contract: the server, 13, the choice, then the entry.
-use Prim.Native.Nat.{_<_}
 use Rattle.base.specs.Answer.{given, pick, refused}
 use Rattle.binding.proofs.BindingLaws.{chosen-below}
 use Rattle.binding.specs.Answers.{choiceAnswer, whyChoice}
@@ -11,8 +10,7 @@ use Rattle.xdr.specs.Res.{no}
 use borrow.Author.Needs.{needs}
 use borrow.Author.Tests.{not-false, not-true}
 use denote.Ref.{now}
-use lib.ListN.{length}
-use mathlib.Core.Path.{_≡_, refl, sym, _∙_}
+use mathlib.Core.Path.{refl, sym, _∙_}
 use native.Mathlib.Omega.{arith}
 use Rattle.binding.proofs.entry.bind_server.Statement.{statement}
 use Rattle.binding.proofs.entry.bind_server.Tie as tie

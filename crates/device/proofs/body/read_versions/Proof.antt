@@ -2,8 +2,9 @@
 -- them put into blank places were at the start. The measure is how many items are left. `k` is the place at the loop.
 use Prim.Native.Nat.{_-_, _≤_}
 use Rattle.device.proofs.PlaceLaws.{list-begun, list-refused, placed, placed-next, placed-none, placed-refused}
-use Rattle.device.specs.Answers.{resList, resVersion, whyVersion}
-use Rattle.device.specs.Versions.{versionAt, blankVersion}
+use Rattle.device.specs.Answers.{resList}
+use Rattle.device_version.specs.Answers.{resVersion, whyVersion}
+use Rattle.device_version.specs.Versions.{versionAt, blankVersion}
 use Rattle.xdr.proofs.Accepted.{count-read}
 use Rattle.xdr.proofs.Steps.{came, handed}
 use Rattle.xdr.specs.Answers.{resU32}

@@ -1,10 +1,9 @@
 -- `events::grants::grant` meets its contract: soundness, then the layout4, then the rights in its range.
 use Prim.Native.Nat.{_+_, _-_}
-use Rattle.base.specs.Answer.{Answer, accepted, refused}
+use Rattle.base.specs.Answer.{refused}
 use Rattle.base.specs.declared.refusal.Refusal.the-variants.{Unsound}
 use Rattle.events.proofs.EventLaws.{grant-done, grant-refused, is-unsound, own-refused, refused-left}
 use Rattle.layout4.specs.Answers.{layout4Answer, whyLayout4}
-use Rattle.layout4.specs.Layout4s.{Whole, layout4}
 use Rattle.layout4.specs.declared.whole.Layout4Answer.{Layout4Answer}
 use Rattle.reference.proofs.OwnLaws.{layout4-read}
 use Rattle.reference.specs.Model.{Grant}
@@ -12,7 +11,7 @@ use Rattle.xdr.proofs.Steps.{came, handed}
 use borrow.Author.Needs.{needs}
 use borrow.Author.Tests.{not-false, not-true}
 use denote.Ref.{now}
-use mathlib.Core.Path.{_≡_, refl, sym, _∙_}
+use mathlib.Core.Path.{refl, sym, _∙_}
 use native.Mathlib.Omega.{arith}
 use Rattle.events.proofs.grants.grant.Statement.{statement}
 use Rattle.events.proofs.grants.grant.Tie as tie

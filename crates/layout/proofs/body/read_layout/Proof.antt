@@ -1,19 +1,16 @@
 -- `layout::body::read_layout` meets its contract: the length, then front, mirrors and tail, then nothing more.
-use Prim.Native.Nat.{ℕ, _≤_}
 use Rattle.layout.proofs.BodyLaws.{accepted-whole, all-read, fault-met, layout-parts, left-over, refused-whole, too-long}
 use Rattle.layout.proofs.FrontLaws.{front-read}
 use Rattle.layout.proofs.TableLaws.{mirrors-have, mirrors-read-too, mirrors-refused-too, starts-filled}
-use Rattle.layout.specs.Answers.{resFront, resTail, startsIn, whyFront, whyTail}
+use Rattle.layout.specs.Answers.{resFront, resTail, whyFront, whyTail}
 use Rattle.layout.specs.Layouts.{layoutAt}
 use Rattle.layout.specs.Starts.{resStarts}
 use Rattle.server.specs.Answers.{whyEnd}
 use Rattle.server.specs.declared.handles.ReadEnd.{ReadEnd}
 use Rattle.xdr.proofs.Steps.{came, handed}
-use Rattle.xdr.specs.Res.{Res, no, then}
+use Rattle.xdr.specs.Res.{no, then}
 use borrow.Author.Needs.{needs}
 use denote.Ref.{now}
-use lib.ListN.{length, replicate}
-use mathlib.Core.List.{List}
 use mathlib.Core.Path.{refl, sym, _∙_}
 use native.Mathlib.Omega.{arith}
 use Rattle.layout.proofs.body.read_layout.Statement.{statement}

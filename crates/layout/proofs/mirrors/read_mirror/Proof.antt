@@ -10,7 +10,6 @@ use borrow.Author.Needs.{needs}
 use borrow.Author.Tests.{eq-eqb, ne-eqb}
 use denote.Ref.{now}
 use mathlib.Core.Path.{refl}
-use native.Mathlib.Omega.{arith}
 use Rattle.layout.proofs.mirrors.read_mirror.Statement.{statement}
 use Rattle.layout.proofs.mirrors.read_mirror.Tie as tie
 

@@ -3,7 +3,7 @@
 use Prim.Native.Nat.{ℕ, _+_, _-_, _*_, _≤_}
 use Rattle.layout.proofs.StartLaws.{mirrors-next, mirrors-none, mirrors-refused, row-read, row-refused}
 use Rattle.layout.specs.Layouts.{mirrorAt, mirrorsAt}
-use Rattle.layout.specs.Starts.{resStarts, withMirrors, withServers}
+use Rattle.layout.specs.Starts.{resStarts, withMirrors}
 use Rattle.server.specs.Servers.{serverAt}
 use Rattle.server.specs.declared.handles.ReadEnd.{ReadEnd}
 use Rattle.xdr.proofs.Steps.{came}

@@ -12,7 +12,6 @@ use borrow.Author.Needs.{needs}
 use denote.Ref.{now}
 use lib.ListN.{length}
 use mathlib.Core.Path.{_≡_, refl, _∙_}
-use native.Mathlib.Numerals.{add-one}
 use native.Mathlib.Omega.{arith}
 use Rattle.layout.proofs.mirrors.read_servers.Statement.{statement}
 use Rattle.layout.proofs.mirrors.read_servers.Tie as tie

@@ -1,5 +1,5 @@
 -- `layout4::whole::read_layout4` meets its contract: frame, body, padding, then nothing more.
-use Prim.Native.Nat.{ℕ, _+_, _-_, _≤_}
+use Prim.Native.Nat.{_+_, _-_, _≤_}
 use Rattle.base.specs.Answer.{refused}
 use Rattle.layout.specs.Answers.{layoutAnswer, whyLayout}
 use Rattle.layout.specs.declared.body.LayoutAnswer.{LayoutAnswer}
@@ -13,7 +13,6 @@ use borrow.Author.Needs.{needs}
 use borrow.Author.Tests.{leb-true, not-false, not-true}
 use denote.Ref.{now}
 use lib.ListN.{length}
-use mathlib.Core.List.{List}
 use mathlib.Core.Path.{_≡_, refl, sym, _∙_}
 use native.Mathlib.Omega.{arith}
 use Rattle.layout4.proofs.whole.read_layout4.Statement.{statement}

@@ -1,7 +1,6 @@
 -- `lookup::range::hits` meets its contract: the segment and the range meet, and the right passes.
 use borrow.Author.Needs.{needs}
 use borrow.Author.Tests.{le-leb, lt-leb}
-use mathlib.Core.Path.{sym, _∙_}
 use Rattle.lookup.proofs.range.hits.Statement.{statement}
 use Rattle.lookup.proofs.range.hits.Tie as tie
 

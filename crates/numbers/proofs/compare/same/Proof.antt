@@ -1,12 +1,12 @@
 -- `numbers::compare::same` meets its contract. The loop's invariant: the bytes passed are equal, so what is left decides.
-use Prim.Native.Nat.{_+_, _-_, _≤_}
+use Prim.Native.Nat.{_-_, _≤_}
 use Rattle.numbers.proofs.SameLaws.{same-lengths, same-step}
 use Rattle.numbers.specs.Numbers.{sameBytes}
 use borrow.Author.Needs.{needs}
 use borrow.Author.Tests.{eq-eqb, ne-eqb}
 use denote.Ref.{now}
 use lib.ListN.{length, drop, drop-of-length-le}
-use mathlib.Core.Path.{_≡_, refl, sym, _∙_}
+use mathlib.Core.Path.{_≡_, refl, sym}
 use native.Mathlib.Numerals.{add-one}
 use native.Mathlib.Omega.{arith}
 use Rattle.numbers.proofs.compare.same.Statement.{statement}

@@ -1,8 +1,9 @@
 -- `report_write::put::put_error` meets its contract: the record fits, or the buffer stays.
 use Prim.Native.Nat.{_+_, _≤_}
 use Rattle.numbers.proofs.NumberLaws.{length-be}
-use Rattle.numbers.proofs.StoreLaws.{length-stored, stored-then, unfit-stored}
-use Rattle.numbers.specs.Numbers.{beBytes, stored}
+use Rattle.buffers.proofs.StoredLaws.{length-stored, stored-then, unfit-stored}
+use Rattle.buffers.specs.Buffers.{stored}
+use Rattle.numbers.specs.Numbers.{beBytes}
 use Rattle.report_write.proofs.StoringLaws.{length-error}
 use Rattle.report_write.specs.Writing.{ErrorRecord, errorBytes}
 use borrow.Author.Needs.{needs}

@@ -1,9 +1,8 @@
 -- `slots::clear::clear_unnamed` meets its contract: the slots still to be looked at finish the work.
-use Prim.Native.Nat.{ℕ, _-_, _≤_, _+_}
+use Prim.Native.Nat.{_-_, _≤_}
 use Rattle.slots.proofs.SearchLaws.{cleared-all, cleared-next}
 use Rattle.slots.specs.Slots.{clearedFrom}
 use borrow.Author.Needs.{needs}
-use denote.Ref.{now}
 use lib.ListN.{length}
 use mathlib.Core.Path.{_≡_, refl, sym, ap, _∙_}
 use native.Mathlib.Omega.{arith}

@@ -1,8 +1,7 @@
 -- `slots::home::find_home` meets its contract: no slot before the one looked at holds the body.
-use Prim.Native.Nat.{ℕ, _-_, _≤_}
+use Prim.Native.Nat.{_-_, _≤_}
 use Rattle.slots.proofs.SearchLaws.{SoughtTo, sought-here, sought-next, sought-none, sought-start}
 use borrow.Author.Needs.{needs}
-use denote.Ref.{now}
 use mathlib.Core.Path.{sym, _∙_}
 use native.Mathlib.Omega.{arith}
 use Rattle.slots.proofs.home.find_home.Statement.{statement}

@@ -1,11 +1,9 @@
 -- `slots::home::holds` meets its contract: a slot that no segment names holds nothing.
-use Prim.Native.Nat.{ℕ}
 use Rattle.numbers.specs.Numbers.{sameBytes}
 use Rattle.store.specs.Store.{bodyIn}
 use borrow.Author.Needs.{needs}
 use borrow.Author.Tests.{not-false, not-true}
 use denote.Ref.{now}
-use mathlib.Core.List.{List}
 use mathlib.Core.Path.{sym, ap, _∙_}
 use Rattle.slots.proofs.home.holds.Statement.{statement}
 use Rattle.slots.proofs.home.holds.Tie as tie

@@ -1,11 +1,10 @@
 -- `store::lay::lay_body` meets its contract: length, kind, body and zeros one behind the other are the slot.
-use Prim.Native.Nat.{_+_, _*_}
 use Rattle.store.proofs.LayLaws.{laid, no-slot, too-long}
 use Rattle.store.proofs.SlotLaws.{length-slot}
 use Rattle.store.specs.Store.{holds}
 use borrow.Author.Needs.{needs}
 use denote.Ref.{now}
-use mathlib.Core.Path.{_≡_, sym, _∙_}
+use mathlib.Core.Path.{sym}
 use native.Mathlib.Omega.{arith}
 use Rattle.store.proofs.lay.lay_body.Statement.{statement}
 use Rattle.store.proofs.lay.lay_body.Tie as tie

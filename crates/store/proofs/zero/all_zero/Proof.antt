@@ -1,6 +1,6 @@
 -- `store::zero::all_zero` meets its contract. The loop's invariant: the bytes passed are zero, so what is left decides. The measure is how many
 -- bytes are left.
-use Prim.Native.Nat.{_+_, _-_, _≤_}
+use Prim.Native.Nat.{_-_, _≤_}
 use Rattle.store.proofs.ZeroLaws.{block-first, zero-none}
 use Rattle.xdr.specs.Items.{allZero}
 use borrow.Author.Needs.{needs}

@@ -6,8 +6,7 @@ use Rattle.xdr.specs.Items.{allZero}
 use borrow.Author.Needs.{needs}
 use borrow.Author.Tests.{eq-eqb, ne-eqb}
 use denote.Ref.{now}
-use lib.ListN.{length}
-use mathlib.Core.Path.{_≡_, refl, _∙_}
+use mathlib.Core.Path.{_≡_}
 use native.Mathlib.Omega.{arith}
 use Rattle.xdr.proofs.item.zeros.Statement.{statement}
 use Rattle.xdr.proofs.item.zeros.Tie as tie

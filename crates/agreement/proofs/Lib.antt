@@ -1,0 +1,13 @@
+pub mod Changed
+pub mod PushShows
+pub mod PartsShow
+pub mod EditShows
+pub mod WholeEdits
+pub mod TestLaws
+pub mod EditLaws
+pub mod RightLaws
+pub mod StoreLaws
+pub mod StepLaws
+pub mod Demand
+pub mod Unchanged
+pub mod WholeFile

@@ -1,0 +1,196 @@
+-- What the parts of a rising list before, inside and after a range show, and lists behind each other.
+use Prim.Native.Nat.{ℕ, suc, _+_, _-_, _≤_, _<_, max, min}
+use mathlib.Core.Path.{_≡_, refl, sym, ap, _∙_}
+use mathlib.Core.List.{List, [], _∷_, _++_}
+use native.Mathlib.Omega.{arith}
+use native.Mathlib.Decide.{decLe, decLt}
+use borrow.Author.Tests.{le-leb, le-ltb, lt-leb, lt-ltb}
+use Rattle.base.specs.Answer.{pick}
+use Rattle.segments.specs.declared.Right.{Right}
+use Rattle.segments.specs.declared.Right.the-variants.{None, Granted, Recalled}
+use Rattle.segments.specs.declared.Segment.{Segment}
+use Rattle.segments.specs.Segments.{rightAt}
+use Rattle.segments.proofs.Canon.{Below, Ord, at-in, at-none, at-past, at-under, granted-some, ord-less, recalled-some}
+use Rattle.table.specs.declared.change.Change.{Change}
+use Rattle.table.specs.declared.change.Change.the-variants.{Grant, Clear, Recall}
+use Rattle.table.specs.Edits.{after, before, inside, middle, parts, recalledOf}
+use Rattle.agreement.proofs.Changed.{changedRight}
+use Rattle.agreement.proofs.PushShows.{at-tail}
+
+-- ---- lists behind each other
+
+pub ord-append : (a b : ℕ) (l m : List Segment) → a ≤ b → Ord a l → Below b l → Ord b m → Ord a (l ++ m)
+unfolding Ord Below
+ord-append a b [] m h o k p = ord-less a b m h p
+ord-append a b (s ∷ l) m h o k p = (o .0, o .1, o .2, ord-append (suc (s .last)) b l m (k .0) (o .3) (k .1) p)
+
+pub at-append-none : (l m : List Segment) (x : ℕ) → rightAt m x ≡ None → rightAt (l ++ m) x ≡ rightAt l x
+at-append-none [] m x h = h ∙ sym (at-none x)
+at-append-none (s ∷ l) m x h = at-tail s (l ++ m) l x (at-append-none l m x h)
+
+pub at-append-past : (b : ℕ) (l m : List Segment) (x : ℕ) → Below b l → b ≤ x → rightAt (l ++ m) x ≡ rightAt m x
+unfolding Below
+at-append-past b [] m x k h = refl
+at-append-past b (s ∷ l) m x k h = at-past s (l ++ m) x (omega arith) ∙ at-append-past b l m x (k .1) h
+
+-- ---- before the range
+
+abbrev cutBefore : ℕ → Segment → Segment
+cutBefore lo s = record { first = s .first; last = min (s .last) (lo - 1); right = s .right }
+
+before-cuts : (lo : ℕ) (s : Segment) (l : List Segment) → s .first < lo → parts (before lo) (s ∷ l) ≡ cutBefore lo s ∷ parts (before lo) l
+unfolding parts before pick
+before-cuts lo s l h = rw (lt-ltb (s .first) lo h)
+
+pub before-skips : (lo : ℕ) (s : Segment) (l : List Segment) → lo ≤ s .first → parts (before lo) (s ∷ l) ≡ parts (before lo) l
+unfolding parts before pick
+before-skips lo s l h = rw (le-ltb (s .first) lo h)
+
+abbrev Before : ℕ → ℕ → List Segment → List Segment → Type 0
+Before lo b l ps = Ord b ps × Below lo ps × ((x : ℕ) → x < lo → rightAt ps x ≡ rightAt l x)
+
+pub before-shows : (lo b : ℕ) (l : List Segment) → Ord b l → Before lo b l (parts (before lo) l)
+unfolding Ord Below parts
+before-shows lo b [] o = (tt, tt, λ x h. refl)
+before-shows lo b (s ∷ l) o = go (decLt (s .first) lo) (before-shows lo (suc (s .last)) l (o .3))
+  where
+    go : Dec (s .first < lo) → Before lo (suc (s .last)) l (parts (before lo) l) → Before lo b (s ∷ l) (parts (before lo) (s ∷ l))
+    go (yes d) h =
+        rw (before-cuts lo s l d) (
+          (o .0, omega arith, o .2, ord-less (suc (min (s .last) (lo - 1))) (suc (s .last)) (parts (before lo) l) (omega arith) (h .0)),
+          (omega arith, h .1),
+          λ x k. see x k (decLe (s .first) x) (decLe x (s .last)),
+        )
+      where
+        see : (x : ℕ) → x < lo → Dec (s .first ≤ x) → Dec (x ≤ s .last) → rightAt (cutBefore lo s ∷ parts (before lo) l) x ≡ rightAt (s ∷ l) x
+        see x k (no p) q = at-under (cutBefore lo s) (parts (before lo) l) x (omega arith) ∙ (h .2 x k ∙ sym (at-under s l x (omega arith)))
+        see x k (yes p) (yes q) = at-in (cutBefore lo s) (parts (before lo) l) x p (omega arith) ∙ sym (at-in s l x p q)
+        see x k (yes p) (no q) = at-past (cutBefore lo s) (parts (before lo) l) x (omega arith) ∙ (h .2 x k ∙ sym (at-past s l x (omega arith)))
+    go (no d) h =
+        rw (before-skips lo s l (omega arith)) (
+          ord-less b (suc (s .last)) (parts (before lo) l) (omega arith) (h .0),
+          h .1,
+          λ x k. h .2 x k ∙ sym (at-under s l x (omega arith)),
+        )
+
+-- ---- after the range
+
+abbrev cutAfter : ℕ → Segment → Segment
+cutAfter hi s = record { first = max (s .first) (hi + 1); last = s .last; right = s .right }
+
+after-cuts : (hi : ℕ) (s : Segment) (l : List Segment) → hi < s .last → parts (after hi) (s ∷ l) ≡ cutAfter hi s ∷ parts (after hi) l
+unfolding parts after pick
+after-cuts hi s l h = rw (lt-ltb hi (s .last) h)
+
+pub after-skips : (hi : ℕ) (s : Segment) (l : List Segment) → s .last ≤ hi → parts (after hi) (s ∷ l) ≡ parts (after hi) l
+unfolding parts after pick
+after-skips hi s l h = rw (le-ltb hi (s .last) h)
+
+abbrev After : ℕ → ℕ → List Segment → List Segment → Type 0
+After hi b l ps = Ord (max b (suc hi)) ps × ((x : ℕ) → hi < x → rightAt ps x ≡ rightAt l x)
+
+pub after-shows : (hi b : ℕ) (l : List Segment) → Ord b l → After hi b l (parts (after hi) l)
+unfolding Ord parts
+after-shows hi b [] o = (tt, λ x h. refl)
+after-shows hi b (s ∷ l) o = go (decLt hi (s .last)) (after-shows hi (suc (s .last)) l (o .3))
+  where
+    go : Dec (hi < s .last) → After hi (suc (s .last)) l (parts (after hi) l) → After hi b (s ∷ l) (parts (after hi) (s ∷ l))
+    go (yes d) h =
+        rw (after-cuts hi s l d) (
+          (omega arith, omega arith, o .2, ord-less (suc (s .last)) (max (suc (s .last)) (suc hi)) (parts (after hi) l) (omega arith) (h .0)),
+          λ x k. see x k (decLe (s .first) x) (decLe x (s .last)),
+        )
+      where
+        see : (x : ℕ) → hi < x → Dec (s .first ≤ x) → Dec (x ≤ s .last) → rightAt (cutAfter hi s ∷ parts (after hi) l) x ≡ rightAt (s ∷ l) x
+        see x k (no p) q = at-under (cutAfter hi s) (parts (after hi) l) x (omega arith) ∙ (h .1 x k ∙ sym (at-under s l x (omega arith)))
+        see x k (yes p) (yes q) = at-in (cutAfter hi s) (parts (after hi) l) x (omega arith) q ∙ sym (at-in s l x p q)
+        see x k (yes p) (no q) = at-past (cutAfter hi s) (parts (after hi) l) x (omega arith) ∙ (h .1 x k ∙ sym (at-past s l x (omega arith)))
+    go (no d) h =
+        rw (after-skips hi s l (omega arith)) (
+          ord-less (max b (suc hi)) (max (suc (s .last)) (suc hi)) (parts (after hi) l) (omega arith) (h .0),
+          λ x k. h .1 x k ∙ sym (at-past s l x (omega arith)),
+        )
+
+-- ---- inside the range
+
+recalled-none : (r : Right) → recalledOf r ≡ None → r ≡ None
+recalled-none None e = refl
+recalled-none (Granted i) e = absurd (recalled-some i e)
+recalled-none (Recalled i) e = absurd (recalled-some i e)
+
+abbrev cutInside : ℕ → ℕ → Segment → Segment
+cutInside lo hi s = record { first = max (s .first) lo; last = min (s .last) hi; right = recalledOf (s .right) }
+
+pub inside-cuts : (lo hi : ℕ) (s : Segment) (l : List Segment) → s .first ≤ hi → lo ≤ s .last
+    → parts (inside lo hi) (s ∷ l) ≡ cutInside lo hi s ∷ parts (inside lo hi) l
+unfolding parts inside pick
+inside-cuts lo hi s l h k = rw (le-leb (s .first) hi h, le-leb lo (s .last) k)
+
+pub inside-skips-past : (lo hi : ℕ) (s : Segment) (l : List Segment) → hi < s .first → parts (inside lo hi) (s ∷ l) ≡ parts (inside lo hi) l
+unfolding parts inside pick
+inside-skips-past lo hi s l h = rw (lt-leb (s .first) hi h)
+
+pub inside-skips-under : (lo hi : ℕ) (s : Segment) (l : List Segment) → s .first ≤ hi → s .last < lo → parts (inside lo hi) (s ∷ l) ≡ parts (inside lo hi) l
+unfolding parts inside pick
+inside-skips-under lo hi s l h k = rw (le-leb (s .first) hi h, lt-leb lo (s .last) k)
+
+abbrev Inside : ℕ → ℕ → ℕ → List Segment → List Segment → Type 0
+Inside lo hi b l ps = Ord (max b lo) ps × Below (suc hi) ps × ((x : ℕ) → lo ≤ x → x ≤ hi → rightAt ps x ≡ recalledOf (rightAt l x))
+
+inside-shows : (lo hi b : ℕ) (l : List Segment) → lo ≤ hi → Ord b l → Inside lo hi b l (parts (inside lo hi) l)
+unfolding Ord Below parts
+inside-shows lo hi b [] n o = (tt, tt, λ x h k. at-none x ∙ ap (λ (r : Right). recalledOf r) (sym (at-none x)))
+inside-shows lo hi b (s ∷ l) n o = go (decLe (s .first) hi) (decLe lo (s .last)) (inside-shows lo hi (suc (s .last)) l n (o .3))
+  where
+    go : Dec (s .first ≤ hi) → Dec (lo ≤ s .last) → Inside lo hi (suc (s .last)) l (parts (inside lo hi) l)
+        → Inside lo hi b (s ∷ l) (parts (inside lo hi) (s ∷ l))
+    go (yes d) (yes e) h =
+        rw (inside-cuts lo hi s l d e) (
+          (
+            omega arith,
+            omega arith,
+            λ z. o .2 (recalled-none (s .right) z),
+            ord-less (suc (min (s .last) hi)) (max (suc (s .last)) lo) (parts (inside lo hi) l) (omega arith) (h .0),
+          ),
+          (omega arith, h .1),
+          λ x k m. see x k m (decLe (s .first) x) (decLe x (s .last)),
+        )
+      where
+        see : (x : ℕ) → lo ≤ x → x ≤ hi → Dec (s .first ≤ x) → Dec (x ≤ s .last)
+            → rightAt (cutInside lo hi s ∷ parts (inside lo hi) l) x ≡ recalledOf (rightAt (s ∷ l) x)
+        see x k m (no p) q =
+            at-under (cutInside lo hi s) (parts (inside lo hi) l) x (omega arith)
+            ∙ (h .2 x k m ∙ ap (λ (r : Right). recalledOf r) (sym (at-under s l x (omega arith))))
+        see x k m (yes p) (yes q) =
+            at-in (cutInside lo hi s) (parts (inside lo hi) l) x (omega arith) (omega arith)
+            ∙ ap (λ (r : Right). recalledOf r) (sym (at-in s l x p q))
+        see x k m (yes p) (no q) =
+            at-past (cutInside lo hi s) (parts (inside lo hi) l) x (omega arith)
+            ∙ (h .2 x k m ∙ ap (λ (r : Right). recalledOf r) (sym (at-past s l x (omega arith))))
+    go (no d) e h =
+        rw (inside-skips-past lo hi s l (omega arith)) (
+          ord-less (max b lo) (max (suc (s .last)) lo) (parts (inside lo hi) l) (omega arith) (h .0),
+          h .1,
+          λ x k m. h .2 x k m ∙ ap (λ (r : Right). recalledOf r) (sym (at-under s l x (omega arith))),
+        )
+    go (yes d) (no e) h =
+        rw (inside-skips-under lo hi s l d (omega arith)) (
+          ord-less (max b lo) (max (suc (s .last)) lo) (parts (inside lo hi) l) (omega arith) (h .0),
+          h .1,
+          λ x k m. h .2 x k m ∙ ap (λ (r : Right). recalledOf r) (sym (at-past s l x (omega arith))),
+        )
+
+abbrev Middle : Change → ℕ → ℕ → List Segment → List Segment → Type 0
+Middle c lo hi l ps = Ord lo ps × Below (suc hi) ps × ((x : ℕ) → lo ≤ x → x ≤ hi → rightAt ps x ≡ changedRight c (rightAt l x))
+
+pub middle-shows : (c : Change) (lo hi : ℕ) (l : List Segment) → lo ≤ hi → Ord 0 l → Middle c lo hi l (middle c lo hi l)
+unfolding middle Ord Below
+middle-shows (Grant i) lo hi l n o = (
+  (omega arith, n, granted-some i, tt),
+  (omega arith, tt),
+  λ x h k. at-in (record { first = lo; last = hi; right = Granted i }) [] x h k,
+)
+middle-shows Clear lo hi l n o = (tt, tt, λ x h k. at-none x)
+middle-shows Recall lo hi l n o =
+    let h = inside-shows lo hi 0 l n o in
+    (ord-less lo (max 0 lo) (parts (inside lo hi) l) (omega arith) (h .0), h .1, h .2)

@@ -1,0 +1,79 @@
+-- The rights that an edit leaves are those of the model after the event, with the numbers of its slots.
+use Prim.Native.Nat.{ℕ, _≤_}
+use mathlib.Core.Path.{_≡_, refl, ap, _∙_}
+use mathlib.Core.Bool.{Bool, true, false}
+use mathlib.Core.List.{List}
+use Rattle.numbers.proofs.SameLaws.{same-refl}
+use Rattle.base.specs.Answer.{pick}
+use Rattle.segments.specs.declared.Right.the-variants.{Granted, Recalled}
+use Rattle.segments.specs.Segments.{Mode}
+use Rattle.table.specs.declared.change.Change.{Change}
+use Rattle.table.specs.declared.change.Change.the-variants as change
+use Rattle.agreement.proofs.Changed.{changedRight}
+use Rattle.store.specs.Store.{Body, Slot}
+use Rattle.reference.specs.Model.{ByteRight, none, granted, recalled, Model, Order, Deed, grants, returns, recalls, revokes, act, afterAt, anyByte, covers, inSlots, isUnder, placed, rightAfter, slotOf, withSlot}
+use Rattle.reference.proofs.SlotLaws.{named-slot, placed-slot}
+use Rattle.reference.proofs.Inv.{Housed, any-byte}
+
+-- what an event makes of the table, given the slot of its body
+abbrev pub changeOf : Deed → ℕ → Change
+changeOf (grants b) s = change.Grant (record { 0 = s })
+changeOf returns s = change.Clear
+changeOf recalls s = change.Recall
+changeOf revokes s = change.Clear
+
+-- the slot of a granted body is s
+abbrev pub HomeIs : Deed → List Slot → ℕ → Type 0
+HomeIs (grants b) ss s = slotOf b (placed (grants b) ss) ≡ s
+HomeIs returns ss s = Unit {0}
+HomeIs recalls ss s = Unit {0}
+HomeIs revokes ss s = Unit {0}
+
+module _ (N : ℕ) where
+  module _ (M : Model) (o : Order) where
+    slot-kept : (b : Body) → inSlots b (M .slots) ≡ true → anyByte N (λ m x. isUnder b (act N o M .right m x)) ≡ true
+        → slotOf b (act N o M .slots) ≡ slotOf b (M .slots)
+    unfolding act
+    slot-kept b h k = named-slot N (act N o M .right) b (placed (o .deed) (M .slots)) k ∙ placed-slot (o .deed) b (M .slots) h
+
+    -- a right that the event leaves keeps its slot
+    right-kept : (m : Mode) (x : ℕ) (r : ByteRight) → x ≤ N → Housed (M .slots) r → act N o M .right m x ≡ r
+        → withSlot (act N o M .slots) r ≡ withSlot (M .slots) r
+    right-kept m x none k h e = refl
+    right-kept m x (granted b) k h e =
+        let n = any-byte N (λ m x. isUnder b (act N o M .right m x)) m x k (ap (isUnder b) e ∙ same-refl b) in
+        ap (λ (s : ℕ). Granted (record { 0 = s })) (slot-kept b h n)
+    right-kept m x (recalled b) k h e =
+        let n = any-byte N (λ m x. isUnder b (act N o M .right m x)) m x k (ap (isUnder b) e ∙ same-refl b) in
+        ap (λ (s : ℕ). Recalled (record { 0 = s })) (slot-kept b h n)
+
+    changed : (d : Deed) (s : ℕ) (m : Mode) (x : ℕ) (r : ByteRight) → o .deed ≡ d → HomeIs d (M .slots) s → x ≤ N → Housed (M .slots) r
+        → act N o M .right m x ≡ rightAfter d r
+        → withSlot (act N o M .slots) (rightAfter d r) ≡ changedRight (changeOf d s) (withSlot (M .slots) r)
+    unfolding act
+    changed (grants b) s m x r f g k h e =
+        let n = any-byte N (λ m x. isUnder b (act N o M .right m x)) m x k (ap (isUnder b) e ∙ same-refl b) in
+        let p : slotOf b (act N o M .slots) ≡ s =
+        named-slot N (act N o M .right) b (placed (o .deed) (M .slots)) n ∙ (ap (λ (d : Deed). slotOf b (placed d (M .slots))) f ∙ g) in
+        ap (λ (s : ℕ). Granted (record { 0 = s })) p
+    changed returns s m x r f g k h e = refl
+    changed revokes s m x r f g k h e = refl
+    changed recalls s m x none f g k h e = refl
+    changed recalls s m x (granted b) f g k h e = right-kept m x (recalled b) k h e
+    changed recalls s m x (recalled b) f g k h e = right-kept m x (recalled b) k h e
+
+    act-at : (c : Bool) (m : Mode) (x : ℕ) → covers o m x ≡ c → act N o M .right m x ≡ pick c (rightAfter (o .deed) (M .right m x)) (M .right m x)
+    unfolding act afterAt
+    act-at c m x e = ap (λ (c : Bool). pick c (rightAfter (o .deed) (M .right m x)) (M .right m x)) e
+
+    pub rights-agree : (s : ℕ) → HomeIs (o .deed) (M .slots) s → (m : Mode) (x : ℕ) → x ≤ N → Housed (M .slots) (M .right m x)
+        → withSlot (act N o M .slots) (afterAt o m x (M .right m x))
+        ≡ pick (covers o m x) (changedRight (changeOf (o .deed) s) (withSlot (M .slots) (M .right m x))) (withSlot (M .slots) (M .right m x))
+    unfolding afterAt pick
+    rights-agree s g m x k h = go (covers o m x) refl
+      where
+        go : (c : Bool) → covers o m x ≡ c
+            → withSlot (act N o M .slots) (pick c (rightAfter (o .deed) (M .right m x)) (M .right m x))
+            ≡ pick c (changedRight (changeOf (o .deed) s) (withSlot (M .slots) (M .right m x))) (withSlot (M .slots) (M .right m x))
+        go true e = changed (o .deed) s m x (M .right m x) refl g k h (act-at true m x e)
+        go false e = right-kept m x (M .right m x) k h (act-at false m x e)

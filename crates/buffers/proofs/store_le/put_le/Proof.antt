@@ -1,0 +1,71 @@
+-- `numbers::store_le::put_le` meets its contract. The loop's invariant: what is still to be stored over the buffer now is what was to be stored
+-- over the buffer at the start. The measure is how many bytes are left.
+use Prim.Native.Nat.{ℕ, _+_, _-_, _≤_}
+use Rattle.buffers.proofs.StoredLaws.{low-byte-first}
+use Rattle.numbers.specs.Numbers.{leBytes}
+use borrow.Author.Needs.{needs}
+use lib.ListN.{length, length-set}
+use lib.Seq.{sets}
+use mathlib.Core.Path.{_≡_, refl, sym, ap, _∙_}
+use native.Mathlib.Nat.{add-zero}
+use native.Mathlib.Omega.{arith}
+use Rattle.buffers.proofs.store_le.put_le.Statement.{statement}
+use Rattle.buffers.proofs.store_le.put_le.Tie as tie
+
+abbrev Inv-loop : tie.InvT-loop
+Inv-loop buf₀ at k v w₀ i₀ buf w i = (i ≤ k) × (length buf ≡ length buf₀) × (sets buf₀ at (leBytes k v) ≡ sets buf (at + i) (leBytes (k - i) w))
+
+abbrev μ-loop : tie.MeasureT-loop
+μ-loop buf₀ at k v w₀ i₀ buf w i = k - i
+
+loop-holds : tie.Need-loop-holds Inv-loop μ-loop
+loop-holds c =
+    let a = c .args in
+    let e : a .k - 0 ≡ a .k = omega arith in
+    (omega arith, refl, rw (add-zero (a .at), e))
+
+cast-buf : tie.Need-cast-buf Inv-loop μ-loop
+cast-buf c = search needs
+
+add-buf : tie.Need-add-buf Inv-loop μ-loop
+add-buf c = search needs
+
+slice-write-buf : tie.Need-slice-write-buf Inv-loop μ-loop
+slice-write-buf c = search needs
+
+add-i : tie.Need-add-i Inv-loop μ-loop
+add-i c = search needs
+
+loop-less : tie.Need-loop-less Inv-loop μ-loop
+loop-less c = search needs
+
+loop-again : tie.Need-loop-again Inv-loop μ-loop
+loop-again c =
+    let l = c .before .loop in
+    (omega arith, simp length-set (l .inv .1), l .inv .2 ∙ low-byte-first (l .buf) (c .before .before .args .at) (c .before .before .args .k) (l .i) (l .w) (omega arith))
+
+same-length : tie.Need-same-length Inv-loop μ-loop
+same-length c = c .before .loop .inv .1
+
+returns : tie.Need-returns Inv-loop μ-loop
+unfolding leBytes
+returns c =
+    let l = c .before .loop in
+    let e : c .before .before .args .k - l .i ≡ 0 = omega arith in
+    sym (l .inv .2 ∙ ap (λ (n : ℕ). sets (l .buf) (c .before .before .args .at + l .i) (leBytes n (l .w))) e)
+
+pub put-le-spec : {M : Type 1} → statement M
+put-le-spec =
+    tie.close
+    (tie.spec
+    Inv-loop
+    μ-loop
+    loop-holds
+    cast-buf
+    add-buf
+    slice-write-buf
+    add-i
+    loop-less
+    loop-again
+    same-length
+    returns)

@@ -1,0 +1,3 @@
+pub mod Netids
+pub mod Addresses
+pub mod Answers

@@ -1,0 +1,53 @@
+// One network address of a device body: a netid and an address text.
+use crate::netid::NetidClass;
+use crate::netid::class_of;
+use base::Refusal;
+use xdr::Cursor;
+use xdr::Part;
+use xdr::ReadPart;
+ghost use mathlib.Core.Path.{_≡_};
+ghost use Rattle.netaddr.specs.Addresses.{addressAt};
+ghost use Rattle.netaddr.specs.Answers.{resAddress, whyAddress};
+
+// The class of the netid, and where the address text stands in the body.
+pub struct Address {
+    pub class: NetidClass,
+    pub text: Part,
+}
+
+pub enum ReadAddress {
+    Value(Address, Cursor),
+    Refused(Refusal),
+}
+
+pub fn read_address(s: &[u8], c: Cursor) -> ReadAddress
+    ensures { λ r. ⌜ resAddress r ≡ addressAt (now (s .entry)) (c .at) ⌝ }
+{
+    let first = xdr::read_opaque(s, c, 1, 8);
+    let ReadPart::Value(netid, d) = first else {
+        return ReadAddress::Refused(xdr::why_part(first));
+    };
+    let second = xdr::read_opaque(s, d, 1, 64);
+    let ReadPart::Value(text, e) = second else {
+        return ReadAddress::Refused(xdr::why_part(second));
+    };
+    let start = netid.start;
+    let end = start + netid.len;
+    let class = class_of(&s[start..end]);
+    ReadAddress::Value(
+        Address {
+            class: class,
+            text: text,
+        },
+        e,
+    )
+}
+
+pub fn why_address(r: ReadAddress) -> Refusal
+    ensures { λ e. ⌜ e ≡ whyAddress r ⌝ }
+{
+    match r {
+        ReadAddress::Refused(e) => e,
+        ReadAddress::Value(_, _) => Refusal::BytesRunOut,
+    }
+}
