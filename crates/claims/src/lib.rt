@@ -24,11 +24,12 @@ ghost use Rattle.segments.specs.declared.Right.the-variants.{Granted};
 ghost use Rattle.route.specs.declared.piece.Piece.{Piece};
 ghost use Rattle.route.specs.Routes.{layoutIn, routed};
 ghost use Rattle.reference.specs.Claim.{AllFit, Calls, Demand3, storeLeft, tableLeft};
-ghost use Rattle.reference.specs.Cases.{AllHold, cases};
+ghost use Rattle.reference.specs.Cases as cases;
 ghost use Rattle.reference.specs.StandIns.{changesNothing, firstOnly, refusesAll};
 ghost use Rattle.reference.specs.Sound.{sound};
 ghost use Rattle.reference.specs.Model.{Event, Recall, Return, Revoke};
 ghost use Rattle.events.specs.Events.{InFile, called};
+ghost use Rattle.claims.specs.Examples.{AllHold, examples};
 ghost use Rattle.claims.specs.Statements.{PieceStands, ServerStands};
 
 // A number that was written in k bytes is read back, for every width k.
@@ -100,9 +101,14 @@ pub fn stand_ins_fall()
         × ((call : Calls) → Demand3 (firstOnly call) → ⊥) ⌝ }
 {}
 
-// The scope paper's worked examples of the table, computed on the reference model for short files: answers and segments of each list of events.
+// The starred lines of the scope paper's worked examples, one list of cases of one type, in claims/specs/Examples.antt.
+pub fn worked_examples_hold()
+    ensures { λ r. ⌜ AllHold examples ⌝ }
+{}
+
+// Other worked examples of the table, computed on the reference model for short files: answers and segments of each list of events.
 pub fn table_examples_hold()
-    ensures { λ r. ⌜ AllHold cases ⌝ }
+    ensures { λ r. ⌜ cases.AllHold cases.cases ⌝ }
 {}
 
 // A refused event leaves table and store as they were, whatever they are.

@@ -23,48 +23,9 @@ use Rattle.segments.proofs.Canon.{Below, Canon, at-in, granted-some}
 use Rattle.segments.proofs.Fewest.{scan-only}
 use Rattle.segments.proofs.ScanLaws.{any-none}
 use Rattle.store.specs.Store.{Body, Slot}
-use Rattle.reference.specs.Model.{
-  ByteRight,
-  none,
-  granted,
-  Event,
-  Revoke,
-  Order,
-  act,
-  afterAt,
-  answerTo,
-  answers,
-  anyByte,
-  covers,
-  grantOrder,
-  grants,
-  inSlots,
-  meets,
-  noneEmpty,
-  own,
-  segmentsIn,
-  slotOf,
-  start,
-  stops21,
-  stops22,
-  tooMany,
-  verdict,
-  withSlot,
-}
-use Rattle.reference.specs.Claim.{
-  AllFit,
-  Calls,
-  Demand3,
-  Left,
-  acceptedOf,
-  answered,
-  orderOf,
-  rightGiven,
-  rightIn,
-  storeLeft,
-  tableLeft,
-}
-use Rattle.reference.specs.Cases.{body, grantBytes, grantOf, grantedIn}
+use Rattle.reference.specs.Model.{ByteRight, none, granted, Event, Revoke, Order, act, afterAt, answerTo, answers, anyByte, covers, grantOrder, grants, inSlots, meets, noneEmpty, own, segmentsIn, slotOf, start, stops21, stops22, tooMany, verdict, withSlot}
+use Rattle.reference.specs.Claim.{AllFit, Calls, Demand3, Left, acceptedOf, answered, orderOf, rightGiven, rightIn, storeLeft, tableLeft}
+use Rattle.reference.specs.Cases.{bodyOf, grantBytes, grantOf, grantedIn, servers}
 use Rattle.reference.specs.StandIns.{changesNothing, firstOnly, refusesAll}
 use Rattle.reference.proofs.Inv.{no-segments}
 
@@ -116,13 +77,13 @@ module _ (N : ℕ) (b : Body) where
 unfoldable wholeFile : Event
 wholeFile = grantOf 0 toTheEnd 2 0
 
-whole-file-read : own wholeFile ≡ accepted (record { deed = grants (body 0); iomode = ReadWrite; first = 0; last = lastByte })
-unfolding wholeFile own grantOrder given pick body grantBytes beBytes beFrom beValue layout4 layout4At frameAt rangeAt rangeLast requestLast grantIomodeOf then inside whole manyAt allZero bytesAt countAt numAt opaqueAt headAt handlesAt serverAt frontAt layoutAt layoutBody mirrorsAt tailAt unitFits
+whole-file-read : own wholeFile ≡ accepted (record { deed = grants (bodyOf 0 1 0); iomode = ReadWrite; first = 0; last = lastByte })
+unfolding wholeFile own grantOrder given pick bodyOf servers grantBytes beBytes beFrom beValue layout4 layout4At frameAt rangeAt rangeLast requestLast grantIomodeOf then inside whole manyAt allZero bytesAt countAt numAt opaqueAt headAt handlesAt serverAt frontAt layoutAt layoutBody mirrorsAt tailAt unitFits
 whole-file-read = refl
 
 whole-file-accepted : answers lastByte (wholeFile ∷ []) start ≡ 0 ∷ []
 unfolding answers answerTo
-whole-file-accepted = rw whole-file-read (ap (λ (n : ℕ). n ∷ []) (every-byte-granted lastByte (body 0)))
+whole-file-accepted = rw whole-file-read (ap (λ (n : ℕ). n ∷ []) (every-byte-granted lastByte (bodyOf 0 1 0)))
 
 -- each element is a byte, by a test
 unfoldable areBytes : List ℕ → Bool
@@ -140,7 +101,7 @@ tested-bytes (b ∷ bs) e i = go (ltb b 256) refl e i (λ k j. tested-bytes bs k
     go false h k i rest = absurd (false≢true k)
 
 whole-file-fits : AllFit (wholeFile ∷ [])
-unfolding AllFit wholeFile grantBytes body beBytes areBytes
+unfolding AllFit wholeFile grantBytes bodyOf servers beBytes areBytes
 whole-file-fits = (tested-bytes (grantBytes 0 toTheEnd 2 0) refl, tt)
 
 whole-file-revoke-fits : AllFit (wholeFile ∷ Revoke ∷ [])
@@ -149,7 +110,7 @@ whole-file-revoke-fits = (whole-file-fits .0, (tt, tt))
 
 -- ---- rights that the events give, and that a table shows
 
-granted-by-it : rightGiven (acceptedOf (wholeFile ∷ []) (0 ∷ [])) RW 0 none ≡ granted (body 0)
+granted-by-it : rightGiven (acceptedOf (wholeFile ∷ []) (0 ∷ [])) RW 0 none ≡ granted (bodyOf 0 1 0)
 unfolding rightGiven acceptedOf orderOf afterAt covers pick
 granted-by-it = rw whole-file-read refl
 
@@ -167,7 +128,7 @@ granted-not-none b e = let z : _≡_ {A = ℕ} 0 1 = cc in omega arith
 -- what meets demand 3 shows the right after the grant
 right-shown : (call : Calls) → Demand3 call
     → rightIn (tableLeft call (wholeFile ∷ []) emptyTable (replicate 32768 0)) (storeLeft call (wholeFile ∷ []) emptyTable (replicate 32768 0)) RW 0
-    ≡ granted (body 0)
+    ≡ granted (bodyOf 0 1 0)
 right-shown call d =
     let a = d (wholeFile ∷ []) whole-file-fits in
     a .rights RW 0 (omega arith)
@@ -183,14 +144,14 @@ refuses-all-falls n h d =
 pub changes-nothing-falls : (call : Calls) → Demand3 (changesNothing call) → ⊥
 unfolding tableLeft storeLeft emptyTable inPlaces
 changes-nothing-falls call d =
-    granted-not-none (body 0) (sym (right-shown (changesNothing call) d) ∙ no-right-shown emptyTable (replicate 32768 0) 0 refl)
+    granted-not-none (bodyOf 0 1 0) (sym (right-shown (changesNothing call) d) ∙ no-right-shown emptyTable (replicate 32768 0) 0 refl)
 
 module _ (call : Calls) (d : Demand3 (firstOnly call)) where
   -- what the grant leaves
   abbrev first : Left
   first = firstOnly call wholeFile emptyTable (replicate 32768 0)
 
-  first-shows : rightIn (first .table) (first .store) RW 0 ≡ granted (body 0)
+  first-shows : rightIn (first .table) (first .store) RW 0 ≡ granted (bodyOf 0 1 0)
   unfolding tableLeft storeLeft
   first-shows = right-shown (firstOnly call) d
 
@@ -202,9 +163,9 @@ module _ (call : Calls) (d : Demand3 (firstOnly call)) where
   unfolding pick
   second-ignored =
       rw
-      (ne-eqb (first .table .rw .count) 0 (λ e. granted-not-none (body 0) (sym first-shows ∙ no-right-shown (first .table) (first .store) 0 e)), and-false)
+      (ne-eqb (first .table .rw .count) 0 (λ e. granted-not-none (bodyOf 0 1 0) (sym first-shows ∙ no-right-shown (first .table) (first .store) 0 e)), and-false)
 
-  still-shows : rightIn (tableLeft (firstOnly call) (wholeFile ∷ Revoke ∷ []) emptyTable (replicate 32768 0)) (storeLeft (firstOnly call) (wholeFile ∷ Revoke ∷ []) emptyTable (replicate 32768 0)) RW 0 ≡ granted (body 0)
+  still-shows : rightIn (tableLeft (firstOnly call) (wholeFile ∷ Revoke ∷ []) emptyTable (replicate 32768 0)) (storeLeft (firstOnly call) (wholeFile ∷ Revoke ∷ []) emptyTable (replicate 32768 0)) RW 0 ≡ granted (bodyOf 0 1 0)
   unfolding tableLeft storeLeft
   still-shows = ap (λ (l : Left). rightIn (l .table) (l .store) RW 0) second-ignored ∙ first-shows
 
@@ -214,7 +175,7 @@ module _ (call : Calls) (d : Demand3 (firstOnly call)) where
 
 pub first-only-falls : (call : Calls) → Demand3 (firstOnly call) → ⊥
 first-only-falls call d =
-    granted-not-none (body 0)
+    granted-not-none (bodyOf 0 1 0)
     (sym (still-shows call d)
     ∙ (d (wholeFile ∷ Revoke ∷ []) whole-file-revoke-fits .rights RW 0 (omega arith)
     ∙ (ap (λ (ns : List ℕ). rightGiven (acceptedOf (wholeFile ∷ Revoke ∷ []) ns) RW 0 none) (both-accepted call d) ∙ revoked-behind-it)))

@@ -1,4 +1,5 @@
--- Worked examples: lists of events on a small file, and what the model must make of them, written out from the scope paper's list.
+-- Worked examples of the table: lists of events on a small file, and what the model must make of them. Here are those that the scope paper does not
+-- star; claims/specs/Examples.antt has the starred ones.
 use Prim.Native.Nat.{ℕ, zero, suc, _+_}
 use mathlib.Core.Path.{_≡_}
 use mathlib.Core.List.{List, [], _∷_, _++_}
@@ -11,17 +12,19 @@ use Rattle.segments.specs.Segments.{READ, RW}
 use Rattle.store.specs.Store.{Body}
 use Rattle.reference.specs.Model.{Event, Grant, Return, Recall, Revoke, answers, run, segmentsIn, start}
 
--- a layout body of 80 bytes: one mirror, one server with one filehandle; bodies with different hints are different
-unfoldable pub body : ℕ → Body
-body hint =
-    beBytes 8 0 ++ beBytes 4 1 ++ beBytes 4 1
-    ++ replicate 16 7 ++ beBytes 4 0 ++ replicate 16 0 ++ beBytes 4 1
-    ++ beBytes 4 4 ++ replicate 4 9 ++ beBytes 4 0 ++ beBytes 4 0
-    ++ beBytes 4 0 ++ beBytes 4 hint
+-- so many data servers, each with one filehandle, in 56 bytes
+unfoldable pub servers : ℕ → List ℕ
+servers zero = []
+servers (suc n) =
+    replicate 16 7 ++ beBytes 4 0 ++ replicate 16 0 ++ beBytes 4 1 ++ beBytes 4 4 ++ replicate 4 9 ++ beBytes 4 0 ++ beBytes 4 0 ++ servers n
 
--- a layout4 of 108 bytes with that body
+-- a layout body of one mirror with a unit and n servers; bodies with different hints are different
+unfoldable pub bodyOf : ℕ → ℕ → ℕ → Body
+bodyOf unit n hint = beBytes 8 unit ++ beBytes 4 1 ++ beBytes 4 n ++ servers n ++ beBytes 4 0 ++ beBytes 4 hint
+
+-- a layout4 of 108 bytes with a body of one server
 unfoldable pub grantBytes : ℕ → ℕ → ℕ → ℕ → List ℕ
-grantBytes offset len number hint = beBytes 8 offset ++ beBytes 8 len ++ beBytes 4 number ++ beBytes 4 4 ++ beBytes 4 80 ++ body hint
+grantBytes offset len number hint = beBytes 8 offset ++ beBytes 8 len ++ beBytes 4 number ++ beBytes 4 4 ++ beBytes 4 80 ++ bodyOf 0 1 hint
 
 abbrev pub grantOf : ℕ → ℕ → ℕ → ℕ → Event
 grantOf offset len number hint = Grant (grantBytes offset len number hint)
@@ -58,48 +61,8 @@ returnsFrom (suc n) x = Return x 1 2 ∷ returnsFrom n (x + 2)
 
 abbrev pub cases : List Case
 cases =
-    -- "Grant RW 0..99, return 40..59: segments 0..39 and 60..99."
-    record {
-      last = 120;
-      events = grantOf 0 100 2 0 ∷ Return 40 20 2 ∷ [];
-      numbers = 0 ∷ 0 ∷ [];
-      read = [];
-      rw = grantedIn 0 0 39 ∷ grantedIn 0 60 99 ∷ [];
-    }
-    -- "Then grant 40..59 under the same body: one segment 0..99."
-    ∷ record {
-      last = 120;
-      events = grantOf 0 100 2 0 ∷ Return 40 20 2 ∷ grantOf 40 20 2 0 ∷ [];
-      numbers = 0 ∷ 0 ∷ 0 ∷ [];
-      read = [];
-      rw = grantedIn 0 0 99 ∷ [];
-    }
-    -- "Under another body, with the first still held at 0..39 and 60..99: three segments."
-    ∷ record {
-      last = 120;
-      events = grantOf 0 100 2 0 ∷ Return 40 20 2 ∷ grantOf 40 20 2 1 ∷ [];
-      numbers = 0 ∷ 0 ∷ 0 ∷ [];
-      read = [];
-      rw = grantedIn 0 0 39 ∷ grantedIn 1 40 59 ∷ grantedIn 0 60 99 ∷ [];
-    }
-    -- "Recall RW 10..19 of 0..99: three segments"
-    ∷ record {
-      last = 120;
-      events = grantOf 0 100 2 0 ∷ Recall 10 10 2 ∷ [];
-      numbers = 0 ∷ 0 ∷ [];
-      read = [];
-      rw = grantedIn 0 0 9 ∷ recalledIn 0 10 19 ∷ grantedIn 0 20 99 ∷ [];
-    }
-    -- "A recall on an empty table is 25; a return there is accepted."
-    ∷ record {
-      last = 120;
-      events = Recall 0 toTheEnd 3 ∷ Return 0 toTheEnd 3 ∷ [];
-      numbers = 25 ∷ 0 ∷ [];
-      read = [];
-      rw = [];
-    }
     -- a recall in READ leaves what is held in RW
-    ∷ record {
+    record {
       last = 120;
       events = grantOf 0 100 2 0 ∷ grantOf 0 100 1 0 ∷ Recall 10 10 1 ∷ [];
       numbers = 0 ∷ 0 ∷ 0 ∷ [];
