@@ -1,0 +1,102 @@
+// Draws the stripe chart of a layout4 in a file: chart FILE [FIRST [UNITS]] [svg]
+// FIRST is the first offset shown, UNITS how many stripe units; svg draws a picture instead of text.
+mod arguments;
+mod columns;
+mod facts;
+mod file;
+mod meaning;
+mod picture;
+mod say;
+mod subject;
+mod text;
+
+use arguments::ReadWish;
+use arguments::Wish;
+use base::Iomode;
+use columns::find_columns;
+use events::Verdict;
+use file::ReadFile;
+use layout::Summary;
+use layout4::Layout4;
+use layout4::Layout4Answer;
+use meaning::say_refused;
+use segments::Table;
+use subject::Subject;
+
+// The offset that a chart begins at: the one asked for, else the layout's own.
+fn first_offset(wish: Wish, own: u64) -> u64 {
+    if wish.numbers == 0 {
+        return own;
+    }
+    wish.first
+}
+
+fn writes(iomode: Iomode) -> bool {
+    match iomode {
+        Iomode::Read => false,
+        _ => true,
+    }
+}
+
+fn draw(
+    bytes: &[u8],
+    store: &[u8],
+    t: Table,
+    layout: Layout4,
+    summary: Summary,
+    starts: [u16; 128],
+    wish: Wish,
+) {
+    let iomode = layout.iomode;
+    let from = first_offset(wish, layout.offset);
+    let columns = find_columns(t, store, writes(iomode), layout.offset, from, wish.units);
+    let s = Subject {
+        layout,
+        summary,
+        starts,
+        columns,
+    };
+    if wish.svg {
+        picture::draw_picture(bytes, s);
+        return;
+    }
+    text::draw_text(bytes, s);
+}
+
+// The layout is granted to an empty table with an empty store, and the chart shows what is answered from these.
+fn chart(bytes: &[u8], wish: Wish) {
+    let mut store = [0u8; 32768];
+    let o = events::grant(segments::empty_table(), &mut store, bytes);
+    let v = o.verdict;
+    if let Verdict::Refused(e) = v {
+        say_refused(e);
+        return;
+    }
+    let r = layout4::read_layout4(bytes);
+    let a = r.answer;
+    let Layout4Answer::Value(layout, summary) = a else {
+        say_refused(layout4::why_layout4(a));
+        return;
+    };
+    let t = o.table;
+    let starts = r.starts;
+    draw(bytes, &store, t, layout, summary, starts, wish);
+}
+
+// The longest layout4 has 4,120 bytes. Of a longer file the bytes that the buffer holds are refused just as all of them are.
+fn main() {
+    let w = arguments::read_wish();
+    let ReadWish::Value(wish) = w else {
+        arguments::say_usage();
+        return;
+    };
+    let mut bytes = [0u8; 8192];
+    let f = file::read_file(&mut bytes);
+    let ReadFile::Length(n) = f else {
+        return;
+    };
+    if bytes.len() < n {
+        return;
+    }
+    chart(&bytes[..n], wish);
+}
