@@ -29,7 +29,7 @@ ghost use Rattle.reference.specs.StandIns.{changesNothing, firstOnly, refusesAl
 ghost use Rattle.reference.specs.Sound.{sound};
 ghost use Rattle.reference.specs.Model.{Event, Recall, Return, Revoke};
 ghost use Rattle.events.specs.Events.{InFile, called};
-ghost use Rattle.claims.specs.Examples.{AllHold, examples};
+ghost use Rattle.examples.specs.Examples.{AllHold, examples};
 ghost use Rattle.claims.specs.Statements.{PieceStands, ServerStands};
 
 // A number that was written in k bytes is read back, for every width k.
@@ -101,7 +101,7 @@ pub fn stand_ins_fall()
         × ((call : Calls) → Demand3 (firstOnly call) → ⊥) ⌝ }
 {}
 
-// The starred lines of the scope paper's worked examples, one list of cases of one type, in claims/specs/Examples.antt.
+// The starred lines of the scope paper's worked examples, one list of cases of one type, in examples/specs/Examples.antt.
 pub fn worked_examples_hold()
     ensures { λ r. ⌜ AllHold examples ⌝ }
 {}

@@ -1,5 +1,5 @@
 -- Worked examples of the table: lists of events on a small file, and what the model must make of them. Here are those that the scope paper does not
--- star; claims/specs/Examples.antt has the starred ones.
+-- star; examples/specs/Examples.antt has the starred ones.
 use Prim.Native.Nat.{ℕ, zero, suc, _+_}
 use mathlib.Core.Path.{_≡_}
 use mathlib.Core.List.{List, [], _∷_, _++_}

@@ -1,5 +1,5 @@
--- `claims::worked_examples_hold` is the law of the same content in `ExampleLaws`.
-use Rattle.claims.proofs.ExampleLaws.{examples-hold}
+-- `claims::worked_examples_hold` is the law of the same content in `examples`.
+use Rattle.examples.proofs.ExampleLaws.{examples-hold}
 use Rattle.claims.proofs.worked_examples_hold.Statement.{statement}
 use Rattle.claims.proofs.worked_examples_hold.Tie as tie
 
