@@ -1,0 +1,34 @@
+-- `error_list::put_record` meets its contract: the record is read back from the bytes that are stored.
+use Prim.Native.Nat.{_<_, _^_}
+use Rattle.error_list.proofs.WireRecords.{record-stored}
+use Rattle.error_list.specs.Records.{recordOf}
+use borrow.Author.Needs.{needs}
+use denote.Ref.{now}
+use lib.ListN.{length}
+use mathlib.Core.Path.{_≡_}
+use Rattle.error_list.proofs.put_record.Statement.{statement}
+use Rattle.error_list.proofs.put_record.Tie as tie
+
+mul-put-error : tie.Need-mul-put-error
+mul-put-error c = search needs
+
+slice-aggregate-put-error : tie.Need-slice-aggregate-put-error
+slice-aggregate-put-error c = search needs
+
+put-error-requires : tie.Need-put-error-requires
+put-error-requires c κs = search needs
+
+same-length : tie.Need-same-length
+same-length c = search needs
+
+returns : tie.Need-returns
+returns c =
+    let k : length (c .before .before .before .before .before .before .before .args .error .device) ≡ 16 = search needs in
+    let st : c .before .before .before .before .before .before .before .args .error .status < 256 ^ 4 = search needs in
+    let op : c .before .before .before .before .before .before .before .args .error .operation < 256 ^ 4 = search needs in
+    rw (c .before .before .put-error .ensures) (record-stored (now (c .before .before .before .before .before .before .before .args .buf)) (c .before .before .before .before .before .before .before .args .i) (recordOf (c .before .before .before .before .before .before .before .args .error)) (k, st, op) (c .before .before .before .before .before .before .before .pre))
+
+pub put-record-spec : {M : Type 1} → statement M
+put-record-spec =
+    tie.close
+    (tie.spec mul-put-error slice-aggregate-put-error put-error-requires same-length returns)

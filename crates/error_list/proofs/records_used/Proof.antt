@@ -1,0 +1,13 @@
+-- `error_list::records_used` meets its contract.
+use native.Mathlib.Omega.{arith}
+use Rattle.error_list.proofs.records_used.Statement.{statement}
+use Rattle.error_list.proofs.records_used.Tie as tie
+
+returns : tie.Need-returns
+returns c = omega (arith, c .if1 .taken)
+
+returns-2 : tie.Need-returns-2
+returns-2 c = omega (arith, c .if1 .left)
+
+pub records-used-spec : {M : Type 1} → statement M
+records-used-spec = tie.close (tie.spec returns returns-2)

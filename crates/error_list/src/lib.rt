@@ -1,0 +1,80 @@
+// Error reports, written from one borrowed list of error records.
+use report::ReportHead;
+use report_write::Written;
+ghost use mathlib.Core.Path.{_≡_};
+ghost use mathlib.Core.List.{[], _∷_, _++_};
+ghost use Prim.Native.Nat.{_+_, _*_, _≤_, min};
+ghost use lib.ListN.{length, take};
+ghost use Rattle.report_write.specs.Writing.{after, recordsFrom, reportsWritten};
+ghost use Rattle.report_write.specs.Answers.{answerWritten, lengthOf};
+ghost use Rattle.error_list.specs.Records.{recordOf, recordsOf};
+
+// One error of the list, laid out as a caller in C lays it out.
+#[repr(C)]
+pub struct ErrorRecord {
+    pub device: [u8; 16],
+    pub status: u32,
+    pub operation: u32,
+}
+
+// How many records of the list are looked at: eight reports of 16 errors have no more.
+fn records_used(list_length: usize) -> usize
+    ensures { λ r. ⌜ r ≡ min «list_length» 128 ⌝ }
+{
+    if 128 < list_length {
+        return 128;
+    }
+    list_length
+}
+
+// Record i of the wire records in a buffer. Those before it stay.
+fn put_record(buf: &mut [u8], i: usize, error: ErrorRecord)
+    requires { ⌜ 24 * (i + 1) ≤ length (now buf) ⌝ }
+    ensures { λ r. ⌜ recordsFrom (i + 1) 0 (now (buf .exit)) ≡ recordsFrom i 0 (now (buf .entry)) ++ (recordOf error ∷ []) ⌝ }
+{
+    let device = error.device;
+    report_write::put_error(buf, 24 * i, &device, error.status, error.operation);
+}
+
+// The first n records of the list, as wire records. Proved by hand, as the borrow checker covers no slice of structs.
+fn put_records(buf: &mut [u8], errors: &[ErrorRecord], n: usize)
+    requires { ⌜ (n ≤ length (now errors)) × (24 * n ≤ length (now buf)) ⌝ }
+    ensures { λ r. ⌜ recordsFrom n 0 (now (buf .exit)) ≡ recordsOf (take n (now (errors .entry))) ⌝ }
+{
+    let mut i: usize = 0;
+    while i < n {
+        let error = errors[i];
+        put_record(buf, i, error);
+        i += 1;
+    }
+}
+
+// The body, from wire records by value.
+fn write_wire(
+    count: u32,
+    heads: [ReportHead; 8],
+    list_length: usize,
+    records: [u8; 3072],
+    out: &mut [u8],
+) -> Written
+    ensures { λ r. ⌜ (answerWritten r ≡ lengthOf (reportsWritten count heads (recordsFrom «list_length» 0 records) (length (now (out .entry)))))
+        × (now (out .exit) ≡ after (now (out .entry)) (reportsWritten count heads (recordsFrom «list_length» 0 records) (length (now (out .entry))))) ⌝ }
+{
+    report_write::write_reports(count, heads, list_length, &records, out)
+}
+
+// The body, from the list of errors. Proved by hand, as it hands the list on.
+pub fn write_error_list(
+    count: u32,
+    heads: [ReportHead; 8],
+    errors: &[ErrorRecord],
+    out: &mut [u8],
+) -> Written
+    ensures { λ r. ⌜ (answerWritten r ≡ lengthOf (reportsWritten count heads (recordsOf (now (errors .entry))) (length (now (out .entry)))))
+        × (now (out .exit) ≡ after (now (out .entry)) (reportsWritten count heads (recordsOf (now (errors .entry))) (length (now (out .entry))))) ⌝ }
+{
+    let n = records_used(errors.len());
+    let mut records = [0u8; 3072];
+    put_records(&mut records, errors, n);
+    write_wire(count, heads, errors.len(), records, out)
+}
