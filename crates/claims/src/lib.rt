@@ -30,6 +30,9 @@ ghost use Rattle.reference.specs.Sound.{sound};
 ghost use Rattle.reference.specs.Model.{Event, Recall, Return, Revoke};
 ghost use Rattle.events.specs.Events.{InFile, called};
 ghost use Rattle.examples.specs.Examples.{AllHold, examples};
+ghost use Rattle.record.specs.Records.{recordOf, tableIn};
+ghost use Rattle.record.specs.declared.types.TableRecord.{TableRecord};
+ghost use Rattle.driver.specs.Calls.{calledOn};
 ghost use Rattle.claims.specs.Statements.{PieceStands, ServerStands};
 
 // A number that was written in k bytes is read back, for every width k.
@@ -155,4 +158,17 @@ pub fn writes_need_a_grant()
 pub fn requests_refuse_as_listed()
     ensures { λ r. ⌜ ((write : Bool) (t : Table) (store : List ℕ) (offset len n : ℕ) → routed write t store offset len ≡ refused n
         → (n ≡ 20) ⊎ (n ≡ 5) ⊎ (n ≡ 17)) ⌝ }
+{}
+
+// A table crosses to C as a record of plain numbers: the record of a table stands for that table, and what a record stands for has that record.
+pub fn records_stand_for_tables()
+    ensures { λ r. ⌜ ((t : Table) → tableIn (recordOf t) ≡ accepted t)
+        × ((given : TableRecord) (t : Table) → tableIn given ≡ accepted t → recordOf t ≡ given) ⌝ }
+{}
+
+// A refused call over records gives back the record that it was handed, whatever that is, and leaves the store as it was.
+pub fn refused_calls_keep_records()
+    ensures { λ r. ⌜ ((e : Event) (given : TableRecord) (store : List ℕ)
+        → (calledOn e given store .refusal ≡ 0 → ⊥)
+        → (calledOn e given store .table ≡ given) × (calledOn e given store .store ≡ store)) ⌝ }
 {}

@@ -10,7 +10,8 @@ pub use error::ReadError;
 pub use error::error_fits;
 pub use error::read_error;
 
-// What stands before the errors of a report. `errors` is how many errors follow.
+// What stands before the errors of a report. `errors` is how many errors follow. It crosses to C as it is.
+#[repr(C)]
 pub struct ReportHead {
     pub offset: u64,
     pub length: u64,

@@ -1,4 +1,4 @@
--- `claims::demand_3` is the law of the same content in `events`.
+-- `claims::demand_3` is the law of the same content in `agreement`.
 use Rattle.agreement.proofs.Demand.{calls-meet-demand-3}
 use Rattle.claims.proofs.demand_3.Statement.{statement}
 use Rattle.claims.proofs.demand_3.Tie as tie

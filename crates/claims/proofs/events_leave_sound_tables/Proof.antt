@@ -1,4 +1,4 @@
--- `claims::events_leave_sound_tables` is the law of the same content in `events`.
+-- `claims::events_leave_sound_tables` is the law of the same content in `agreement`.
 use Rattle.agreement.proofs.Unchanged.{sound-after}
 use Rattle.claims.proofs.events_leave_sound_tables.Statement.{statement}
 use Rattle.claims.proofs.events_leave_sound_tables.Tie as tie

@@ -1,4 +1,4 @@
--- `claims::refused_events_change_nothing` is the law of the same content in `events`.
+-- `claims::refused_events_change_nothing` is the law of the same content in `agreement`.
 use Rattle.agreement.proofs.Unchanged.{refusal-keeps}
 use Rattle.claims.proofs.refused_events_change_nothing.Statement.{statement}
 use Rattle.claims.proofs.refused_events_change_nothing.Tie as tie

@@ -1,4 +1,4 @@
--- `claims::whole_file_events_always_fit` is the law of the same content in `events`.
+-- `claims::whole_file_events_always_fit` is the law of the same content in `agreement`.
 use Rattle.agreement.proofs.WholeFile.{whole-recall, whole-return, whole-revoke}
 use Rattle.claims.proofs.whole_file_events_always_fit.Statement.{statement}
 use Rattle.claims.proofs.whole_file_events_always_fit.Tie as tie

@@ -1,0 +1,4 @@
+pub mod CallLaws
+pub mod Unchanged
+pub mod ReportLaws
+pub mod FieldArray

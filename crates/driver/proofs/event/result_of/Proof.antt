@@ -1,0 +1,15 @@
+use borrow.Author.Needs.{needs}
+use Rattle.driver.proofs.event.result_of.Statement.{statement}
+use Rattle.driver.proofs.event.result_of.Tie as tie
+
+verdict-number-requires : tie.Need-verdict-number-requires
+verdict-number-requires c κs = search needs
+
+record-of-requires : tie.Need-record-of-requires
+record-of-requires c κs = search needs
+
+returns : tie.Need-returns
+returns c = rw (c .before .verdict-number .ensures, c .record-of .ensures)
+
+pub result-of-spec : {M : Type 1} → statement M
+result-of-spec = tie.close (tie.spec verdict-number-requires record-of-requires returns)

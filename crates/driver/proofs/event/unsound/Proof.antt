@@ -1,0 +1,12 @@
+use borrow.Author.Needs.{needs}
+use Rattle.driver.proofs.event.unsound.Statement.{statement}
+use Rattle.driver.proofs.event.unsound.Tie as tie
+
+number-requires : tie.Need-number-requires
+number-requires c κs = search needs
+
+returns : tie.Need-returns
+returns c = rw (c .number .ensures)
+
+pub unsound-spec : {M : Type 1} → statement M
+unsound-spec = tie.close (tie.spec number-requires returns)

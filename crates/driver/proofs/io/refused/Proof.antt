@@ -1,0 +1,14 @@
+use Rattle.driver.specs.Calls.{locateResult}
+use borrow.Author.Needs.{needs}
+use Rattle.driver.proofs.io.refused.Statement.{statement}
+use Rattle.driver.proofs.io.refused.Tie as tie
+
+number-requires : tie.Need-number-requires
+number-requires c κs = search needs
+
+returns : tie.Need-returns
+unfolding locateResult
+returns c = rw (c .number .ensures)
+
+pub refused-spec : {M : Type 1} → statement M
+refused-spec = tie.close (tie.spec number-requires returns)

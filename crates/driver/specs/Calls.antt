@@ -1,0 +1,61 @@
+-- What the calls over records of plain numbers make of an event and of an I/O request: the core's own definitions, on the table that the record
+-- stands for.
+use Prim.Native.Nat.{ℕ}
+use mathlib.Core.Bool.{Bool}
+use mathlib.Core.List.{List}
+use Rattle.base.specs.Answer.{Answer, accepted, refused, given}
+use Rattle.base.specs.Iomodes.{numberOfIomode}
+use Rattle.segments.specs.Segments.{emptyTable}
+use Rattle.segments.specs.declared.Table.{Table}
+use Rattle.record.specs.Records.{recordOf, tableIn}
+use Rattle.record.specs.declared.types.TableRecord.{TableRecord}
+use Rattle.reference.specs.Model.{Event}
+use Rattle.reference.specs.Claim.{Left}
+use Rattle.events.specs.Events.{called}
+use Rattle.route.specs.Routes.{routed}
+use Rattle.route.specs.declared.piece.Piece.{Piece}
+use Rattle.driver.specs.declared.io.LocateResult.{LocateResult}
+use Rattle.driver.specs.declared.event.EventResult.{EventResult}
+
+-- ---- events
+
+abbrev pub emptyRecord : TableRecord
+emptyRecord = recordOf emptyTable
+
+-- what a call leaves: the refusal's number or 0, the record given back, the store
+pub record RecordLeft : Type 0 where
+  pub refusal : ℕ
+  pub table : TableRecord
+  pub store : List ℕ
+
+abbrev pub leftRecord : EventResult → List ℕ → RecordLeft
+leftRecord r store = record { refusal = r .refusal; table = r .table; store = store }
+
+abbrev pub recorded : Left → RecordLeft
+recorded l = record { refusal = l .answer; table = recordOf (l .table); store = l .store }
+
+-- a record that is no table is given back as it is
+abbrev pub calledWith : Answer Table → Event → TableRecord → List ℕ → RecordLeft
+calledWith (accepted t) e r store = recorded (called e t store)
+calledWith (refused n) e r store = record { refusal = n; table = r; store = store }
+
+unfoldable pub calledOn : Event → TableRecord → List ℕ → RecordLeft
+calledOn e r store = calledWith (tableIn r) e r store
+
+-- ---- where an I/O goes
+
+-- all else is 0 after a refusal
+unfoldable pub locateResult : Answer Piece → LocateResult
+locateResult (accepted p) = record {
+  refusal = 0;
+  iomode = numberOfIomode (p .iomode);
+  slot = p .slot .0;
+  stripe = p .stripe .0;
+  offset = p .offset;
+  length = p .length;
+  mirrors = p .mirrors;
+}
+locateResult (refused n) = record { refusal = n; iomode = 0; slot = 0; stripe = 0; offset = 0; length = 0; mirrors = 0 }
+
+unfoldable pub routedOn : Bool → TableRecord → List ℕ → ℕ → ℕ → LocateResult
+routedOn write r store offset len = locateResult (given (tableIn r) λ t. routed write t store offset len)

@@ -1,0 +1,116 @@
+// The events. A refused one gives back the record that it was handed, and leaves the store as it was.
+use base::Refusal;
+use events::Outcome;
+use events::Verdict;
+use record::TableRecord;
+ghost use mathlib.Core.Path.{_≡_};
+ghost use Rattle.record.specs.Records.{recordOf};
+ghost use Rattle.reference.specs.Model.{Grant, Recall, Return, Revoke};
+ghost use Rattle.events.specs.Answers.{numberOfVerdict};
+ghost use Rattle.driver.specs.Calls.{calledOn, emptyRecord, leftRecord};
+
+#[repr(C)]
+pub struct EventResult {
+    pub refusal: u32,
+    pub table: TableRecord,
+}
+
+fn verdict_number(v: Verdict) -> u32
+    ensures { λ r. ⌜ r ≡ numberOfVerdict v ⌝ }
+{
+    match v {
+        Verdict::Accepted => 0,
+        Verdict::Refused(e) => base::number(e),
+    }
+}
+
+fn result_of(o: Outcome) -> EventResult
+    ensures { λ r. ⌜ r ≡ record { refusal = numberOfVerdict (o .verdict); table = recordOf (o .table) } ⌝ }
+{
+    let v = o.verdict;
+    let t = o.table;
+    EventResult {
+        refusal: verdict_number(v),
+        table: record::record_of(t),
+    }
+}
+
+fn unsound(table: TableRecord) -> EventResult
+    ensures { λ r. ⌜ r ≡ record { refusal = 20; table = table } ⌝ }
+{
+    EventResult {
+        refusal: base::number(Refusal::Unsound),
+        table,
+    }
+}
+
+#[no_mangle]
+pub extern "C" fn basilothyn_empty_table() -> TableRecord
+    ensures { λ r. ⌜ r ≡ emptyRecord ⌝ }
+{
+    record::record_of(segments::empty_table())
+}
+
+#[no_mangle]
+pub extern "C" fn basilothyn_grant(
+    table: TableRecord,
+    store: &mut [u8],
+    bytes: &[u8],
+) -> EventResult
+    ensures { λ r. ⌜ leftRecord r (now (store .exit)) ≡ calledOn (Grant (now (bytes .entry))) table (now (store .entry)) ⌝ }
+{
+    let taken = record::table_of(table);
+    if !taken.fits {
+        return unsound(table);
+    }
+    let t = taken.table;
+    result_of(events::grant(t, store, bytes))
+}
+
+#[no_mangle]
+pub extern "C" fn basilothyn_return(
+    table: TableRecord,
+    store: &mut [u8],
+    offset: u64,
+    len: u64,
+    iomode: u32,
+) -> EventResult
+    ensures { λ r. ⌜ leftRecord r (now (store .exit)) ≡ calledOn (Return offset len iomode) table (now (store .entry)) ⌝ }
+{
+    let taken = record::table_of(table);
+    if !taken.fits {
+        return unsound(table);
+    }
+    let t = taken.table;
+    result_of(events::layout_return(t, store, offset, len, iomode))
+}
+
+#[no_mangle]
+pub extern "C" fn basilothyn_recall(
+    table: TableRecord,
+    store: &mut [u8],
+    offset: u64,
+    len: u64,
+    iomode: u32,
+) -> EventResult
+    ensures { λ r. ⌜ leftRecord r (now (store .exit)) ≡ calledOn (Recall offset len iomode) table (now (store .entry)) ⌝ }
+{
+    let taken = record::table_of(table);
+    if !taken.fits {
+        return unsound(table);
+    }
+    let t = taken.table;
+    result_of(events::recall(t, store, offset, len, iomode))
+}
+
+#[no_mangle]
+pub extern "C" fn basilothyn_revoke(table: TableRecord, store: &mut [u8]) -> EventResult
+    ensures { λ r. ⌜ leftRecord r (now (store .exit)) ≡ calledOn Revoke table (now (store .entry)) ⌝ }
+{
+    let taken = record::table_of(table);
+    if !taken.fits {
+        return unsound(table);
+    }
+    let t = taken.table;
+    result_of(events::revoke(t, store))
+}

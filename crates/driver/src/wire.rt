@@ -1,0 +1,63 @@
+// The readers of the wire.
+use base::MirrorNumber;
+use base::StripeNumber;
+use wire_record::BindResult;
+use wire_record::DeviceResult;
+use wire_record::Layout4Result;
+use wire_record::LayoutResult;
+use wire_record::ReportsResult;
+ghost use mathlib.Core.Path.{_≡_};
+ghost use Rattle.layout.specs.Layouts.{layoutBody};
+ghost use Rattle.layout4.specs.Layout4s.{layout4};
+ghost use Rattle.device.specs.Bodies.{deviceBody};
+ghost use Rattle.binding.specs.Bindings.{boundTo};
+ghost use Rattle.report.specs.Reports.{reportBody};
+ghost use Rattle.wire_record.specs.Layouts.{layout4Result, layoutResult};
+ghost use Rattle.wire_record.specs.Devices.{deviceResult};
+ghost use Rattle.wire_record.specs.Bindings.{bindResult};
+ghost use Rattle.wire_record.specs.Reports.{reportsResult};
+
+#[no_mangle]
+pub extern "C" fn basilothyn_read_layout(body: &[u8]) -> LayoutResult
+    ensures { λ r. ⌜ r ≡ layoutResult (layoutBody (now (body .entry))) ⌝ }
+{
+    wire_record::layout_result(layout::read_layout(body))
+}
+
+#[no_mangle]
+pub extern "C" fn basilothyn_read_layout4(bytes: &[u8]) -> Layout4Result
+    ensures { λ r. ⌜ r ≡ layout4Result (layout4 (now (bytes .entry))) ⌝ }
+{
+    wire_record::layout4_result(layout4::read_layout4(bytes))
+}
+
+#[no_mangle]
+pub extern "C" fn basilothyn_read_device(body: &[u8]) -> DeviceResult
+    ensures { λ r. ⌜ r ≡ deviceResult (deviceBody (now (body .entry))) ⌝ }
+{
+    wire_record::device_result(device::read_device(body))
+}
+
+// The device body was fetched under the device id; the supported versions are the bits 1, 2, 4, 8 for 3, 4.0, 4.1, 4.2.
+#[no_mangle]
+pub extern "C" fn basilothyn_bind(
+    layout: &[u8],
+    mirror: u32,
+    stripe: u32,
+    device: &[u8],
+    id: &[u8; 16],
+    supported: u32,
+) -> BindResult
+    ensures { λ r. ⌜ r ≡ bindResult (boundTo (now (layout .entry)) mirror stripe (now (device .entry)) (now (id .entry)) supported) ⌝ }
+{
+    let m = MirrorNumber(mirror);
+    let s = StripeNumber(stripe);
+    wire_record::bind_result(binding::bind(layout, m, s, device, id, supported))
+}
+
+#[no_mangle]
+pub extern "C" fn basilothyn_read_reports(body: &[u8]) -> ReportsResult
+    ensures { λ r. ⌜ r ≡ reportsResult (reportBody (now (body .entry))) ⌝ }
+{
+    wire_record::reports_result(report::read_reports(body))
+}

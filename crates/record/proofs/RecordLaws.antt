@@ -1,0 +1,148 @@
+-- Laws of records looked through from the front: the next one and those behind it, one that stands for no segment, none left.
+use Prim.Native.Nat.{ℕ, _+_, _≤_, _<_}
+use mathlib.Core.Path.{_≡_, refl, sym, ap, _∙_}
+use mathlib.Core.Bool.{Bool, true, false, false≢true}
+use mathlib.Core.List.{List, [], _∷_, _++_, append-nil}
+use native.Mathlib.Numerals.{add-one}
+use lib.ListN.{length, take, drop, getD, set, drop-of-length-le}
+use lib.Dec.{eqb}
+use lib.Seq.{append-snoc, drop-cons, take-all, take-suc-set}
+use Rattle.base.specs.Answer.{Answer, accepted, refused, given, pick}
+use Rattle.segments.specs.declared.Right.the-variants.{None, Granted, Recalled}
+use Rattle.segments.specs.Segments.{emptyTable, inPlaces}
+use Rattle.segments.specs.declared.Segment.{Segment}
+use Rattle.segments.specs.declared.Segments.{Segments}
+use Rattle.segments.specs.declared.Table.{Table}
+use Rattle.record.specs.declared.types.SegmentRecord.{SegmentRecord}
+use Rattle.record.specs.declared.from.Taken.{Taken}
+use Rattle.record.specs.declared.from.TakenSegments.{TakenSegments}
+use Rattle.record.specs.Answers.{takenOf, takenSegments}
+use Rattle.record.specs.declared.types.TableRecord.{TableRecord}
+use Rattle.record.specs.Records.{itemsIn, rightIn, segmentIn, segmentsIn, tableIn}
+
+-- ---- the segments of records
+
+-- what was made of the first i records, and then what the records behind them stand for
+abbrev pub Made : List SegmentRecord → List Segment → ℕ → Type 0
+Made l made i = itemsIn l ≡ given (itemsIn (drop i l)) (λ (xs : List Segment). accepted (take i made ++ xs))
+
+given-same : (a : Answer (List Segment)) → a ≡ given a (λ (xs : List Segment). accepted xs)
+unfolding given
+given-same (accepted xs) = refl
+given-same (refused n) = refl
+
+pub made-none : (l : List SegmentRecord) (made : List Segment) → Made l made 0
+made-none l made = given-same (itemsIn l)
+
+items-next : (l : List SegmentRecord) (i : ℕ) (d : SegmentRecord) → i < length l
+    → itemsIn (drop i l) ≡ given (segmentIn (getD l i d)) λ x. given (itemsIn (drop (i + 1) l)) λ xs. accepted (x ∷ xs)
+unfolding itemsIn
+items-next l i d h = rw (drop-cons l i d h, add-one i)
+
+-- a segment in place i, in front of those behind it
+given-behind : (made : List Segment) (i : ℕ) (x : Segment) → i < length made → (a : Answer (List Segment))
+    → given (given (accepted x) λ (y : Segment). given a λ (xs : List Segment). accepted (y ∷ xs)) (λ (xs : List Segment). accepted (take i made ++ xs))
+    ≡ given a (λ (xs : List Segment). accepted (take (i + 1) (set made i x) ++ xs))
+unfolding given
+given-behind made i x k (accepted xs) = rw (add-one i, take-suc-set made i x k, append-snoc (take i made) x xs)
+given-behind made i x k (refused n) = refl
+
+module _ (l : List SegmentRecord) (made : List Segment) (i : ℕ) (d : SegmentRecord) (h : i < length l) (m : Made l made i) where
+  pub made-one : (x : Segment) → i < length made → segmentIn (getD l i d) ≡ accepted x → Made l (set made i x) (i + 1)
+  made-one x k s = m ∙ rw (items-next l i d h, s) (given-behind made i x k (itemsIn (drop (i + 1) l)))
+
+  pub made-stops : (n : ℕ) → segmentIn (getD l i d) ≡ refused n → itemsIn l ≡ refused n
+  unfolding given
+  made-stops n s = m ∙ rw (items-next l i d h, s)
+
+pub made-all : (l : List SegmentRecord) (made : List Segment) (i : ℕ) → length l ≤ i → length made ≤ i → Made l made i → itemsIn l ≡ accepted made
+unfolding itemsIn given
+made-all l made i h k m = m ∙ rw (drop-of-length-le l h, take-all i made k, append-nil)
+
+-- ---- both iomodes
+
+module _ (l : List SegmentRecord) (count : ℕ) where
+  pub segments-none : (n : ℕ) → itemsIn l ≡ refused n → record { fits = false; segments = inPlaces [] } ≡ takenSegments (segmentsIn l count)
+  unfolding takenSegments segmentsIn given
+  segments-none n e = rw e
+
+  pub segments-all : (made : List Segment) → itemsIn l ≡ accepted made
+      → record { fits = true; segments = record { items = made; count = count } } ≡ takenSegments (segmentsIn l count)
+  unfolding takenSegments segmentsIn given
+  segments-all made e = rw e
+
+abbrev tableOf : Answer Segments → Answer Segments → Answer Table
+tableOf a b = given a λ (read : Segments). given b λ (rw : Segments). accepted (record { read = read; rw = rw })
+
+pub taken-left : (a b : Answer Segments) (x : TakenSegments) → x ≡ takenSegments a → x .fits ≡ false
+    → record { fits = false; table = emptyTable } ≡ takenOf (tableOf a b)
+unfolding takenSegments takenOf given
+taken-left (accepted g) b x p f = absurd (false≢true (sym f ∙ ap (λ (y : TakenSegments). y .fits) p))
+taken-left (refused n) b x p f = refl
+
+pub taken-right : (a b : Answer Segments) (y : TakenSegments) → y ≡ takenSegments b → y .fits ≡ false
+    → record { fits = false; table = emptyTable } ≡ takenOf (tableOf a b)
+unfolding takenSegments takenOf given
+taken-right (accepted g) (accepted h) y p f = absurd (false≢true (sym f ∙ ap (λ (z : TakenSegments). z .fits) p))
+taken-right (accepted g) (refused n) y p f = refl
+taken-right (refused m) b y p f = refl
+
+pub taken-both : (a b : Answer Segments) (x y : TakenSegments) → x ≡ takenSegments a → y ≡ takenSegments b → x .fits ≡ true → y .fits ≡ true
+    → record { fits = true; table = record { read = x .segments; rw = y .segments } } ≡ takenOf (tableOf a b)
+unfolding takenSegments takenOf given
+taken-both (accepted g) (accepted h) x y p q f k = rw (p, q)
+taken-both (accepted g) (refused n) x y p q f k = absurd (false≢true (sym (ap (λ (z : TakenSegments). z .fits) q) ∙ k))
+taken-both (refused m) b x y p q f k = absurd (false≢true (sym (ap (λ (z : TakenSegments). z .fits) p) ∙ f))
+
+-- ---- what was taken, read backwards
+
+-- the only refusal is 20
+abbrev Only20 : {A : Type 0} → Answer A → Type 0
+Only20 (accepted a) = Unit {0}
+Only20 (refused n) = n ≡ 20
+
+only-given : {A B : Type 0} (a : Answer A) (next : A → Answer B) → Only20 a → ((x : A) → Only20 (next x)) → Only20 (given a next)
+unfolding given
+only-given (accepted x) next h k = k x
+only-given (refused n) next h k = h
+
+only-pick : {A : Type 0} (t : Bool) (a b : Answer A) → Only20 a → Only20 b → Only20 (pick t a b)
+unfolding pick
+only-pick true a b h k = h
+only-pick false a b h k = k
+
+only-right : (kind slot : ℕ) → Only20 (rightIn kind slot)
+unfolding rightIn
+only-right kind slot =
+    only-pick (eqb kind 0) _ _ (only-pick (eqb slot 0) (accepted None) (refused 20) tt refl)
+    (only-pick (eqb kind 1) (accepted (Granted record { 0 = slot })) _ tt (only-pick (eqb kind 2) (accepted (Recalled record { 0 = slot })) (refused 20) tt refl))
+
+only-items : (l : List SegmentRecord) → Only20 (itemsIn l)
+unfolding itemsIn segmentIn
+only-items [] = tt
+only-items (s ∷ l) =
+    only-given (segmentIn s) _ (only-given (rightIn (s .kind) (s .slot)) _ (only-right (s .kind) (s .slot)) λ r. tt) λ x.
+    only-given (itemsIn l) _ (only-items l) λ xs. tt
+
+only-table : (r : TableRecord) → Only20 (tableIn r)
+unfolding tableIn segmentsIn
+only-table r =
+    only-given (segmentsIn (r .read) (r .«read_count»)) _ (only-given (itemsIn (r .read)) _ (only-items (r .read)) λ xs. tt) λ g.
+    only-given (segmentsIn (r .rw) (r .«rw_count»)) _ (only-given (itemsIn (r .rw)) _ (only-items (r .rw)) λ xs. tt) λ h. tt
+
+unfit-is : (a : Answer Table) (x : Taken) → Only20 a → x ≡ takenOf a → x .fits ≡ false → a ≡ refused 20
+unfolding takenOf
+unfit-is (accepted t) x o p f = absurd (false≢true (sym f ∙ ap (λ (y : Taken). y .fits) p))
+unfit-is (refused n) x o p f = ap refused o
+
+fit-is : (a : Answer Table) (x : Taken) → x ≡ takenOf a → x .fits ≡ true → a ≡ accepted (x .table)
+unfolding takenOf
+fit-is (accepted t) x p f = ap (λ (y : Taken). accepted (y .table)) (sym p)
+fit-is (refused n) x p f = absurd (false≢true (sym (ap (λ (y : Taken). y .fits) p) ∙ f))
+
+module _ (r : TableRecord) (x : Taken) (p : x ≡ takenOf (tableIn r)) where
+  pub no-table-in : x .fits ≡ false → tableIn r ≡ refused 20
+  no-table-in f = unfit-is (tableIn r) x (only-table r) p f
+
+  pub table-in : x .fits ≡ true → tableIn r ≡ accepted (x .table)
+  table-in f = fit-is (tableIn r) x p f

@@ -1,0 +1,15 @@
+use borrow.Author.Needs.{needs}
+use Rattle.record.proofs.into.segment_record.Statement.{statement}
+use Rattle.record.proofs.into.segment_record.Tie as tie
+
+kind-of-requires : tie.Need-kind-of-requires
+kind-of-requires c κs = search needs
+
+slot-of-requires : tie.Need-slot-of-requires
+slot-of-requires c κs = search needs
+
+returns : tie.Need-returns
+returns c = rw (c .before .kind-of .ensures, c .slot-of .ensures)
+
+pub segment-record-spec : {M : Type 1} → statement M
+segment-record-spec = tie.close (tie.spec kind-of-requires slot-of-requires returns)

@@ -1,0 +1,12 @@
+use borrow.Author.Needs.{needs}
+use Rattle.wire_record.proofs.devices.version_record.Statement.{statement}
+use Rattle.wire_record.proofs.devices.version_record.Tie as tie
+
+tight-number-requires : tie.Need-tight-number-requires
+tight-number-requires c κs = search needs
+
+returns : tie.Need-returns
+returns c = rw (c .tight-number .ensures)
+
+pub version-record-spec : {M : Type 1} → statement M
+version-record-spec = tie.close (tie.spec tight-number-requires returns)

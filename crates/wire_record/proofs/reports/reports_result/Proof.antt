@@ -1,0 +1,24 @@
+-- `wire_record::reports::reports_result` meets its contract: the refusal, or what was read.
+use borrow.Author.Needs.{needs}
+use Rattle.wire_record.proofs.reports.reports_result.Statement.{statement}
+use Rattle.wire_record.proofs.reports.reports_result.Tie as tie
+
+enum-known-a : tie.Need-enum-known-a
+enum-known-a c = search needs
+
+number-requires : tie.Need-number-requires
+number-requires c κs = search needs
+
+enum-known-a-2 : tie.Need-enum-known-a-2
+enum-known-a-2 c = search needs
+
+returns : tie.Need-returns
+returns c = rw (c .before .before .a .given .1, c .number .ensures)
+
+returns-2 : tie.Need-returns-2
+returns-2 c = rw (c .before .a2 .given .1)
+
+pub reports-result-spec : {M : Type 1} → statement M
+reports-result-spec =
+    tie.close
+    (tie.spec enum-known-a number-requires enum-known-a-2 returns returns-2)

@@ -1,0 +1,4 @@
+pub mod Layouts
+pub mod Devices
+pub mod Bindings
+pub mod Reports

@@ -1,0 +1,21 @@
+-- Error reports in plain numbers.
+use Prim.Native.Nat.{ℕ}
+use mathlib.Core.List.{List, []}
+use lib.ListN.{length}
+use Rattle.base.specs.Answer.{Answer, accepted, refused}
+use Rattle.report.specs.Reports.{Report}
+use Rattle.report.specs.Answers.{headsOf, placesOf}
+use Rattle.wire_record.specs.declared.reports.ReportsResult.{ReportsResult}
+
+-- the number of a refusal, 0 where there is none
+abbrev pub refusalIn : {A : Type 0} → Answer A → ℕ
+refusalIn (accepted a) = 0
+refusalIn (refused n) = n
+
+abbrev pub numberOfCount : Answer ℕ → ℕ
+numberOfCount (accepted n) = n
+numberOfCount (refused e) = 0
+
+unfoldable pub reportsResult : Answer (List Report) → ReportsResult
+reportsResult (accepted rs) = record { refusal = 0; count = length rs; heads = headsOf rs; «errors_at» = placesOf rs }
+reportsResult (refused n) = record { refusal = n; count = 0; heads = headsOf []; «errors_at» = placesOf [] }

@@ -1,0 +1,134 @@
+// Layout bodies and layout4s.
+use layout::LayoutAnswer;
+use layout::LayoutRead;
+use layout::Summary;
+use layout4::Layout4Answer;
+use layout4::Layout4Read;
+use xdr::Part;
+ghost use mathlib.Core.Path.{_≡_};
+ghost use Rattle.layout.specs.Answers.{layoutAnswer};
+ghost use Rattle.layout4.specs.Answers.{layout4Answer};
+ghost use Rattle.wire_record.specs.Layouts.{layout4Result, layoutResult, partRecord, summaryRecord};
+
+#[repr(C)]
+pub struct PartRecord {
+    pub start: usize,
+    pub len: usize,
+}
+
+#[repr(C)]
+pub struct SummaryRecord {
+    pub unit: u64,
+    pub mirrors: u32,
+    pub servers: u32,
+    pub flags: u32,
+    pub hint: u32,
+}
+
+// The start of a data server stands at 16 times its mirror and its stripe.
+#[repr(C)]
+pub struct LayoutResult {
+    pub refusal: u32,
+    pub summary: SummaryRecord,
+    pub starts: [u16; 128],
+}
+
+#[repr(C)]
+pub struct Layout4Result {
+    pub refusal: u32,
+    pub iomode: u32,
+    pub offset: u64,
+    pub length: u64,
+    pub last: u64,
+    pub body: PartRecord,
+    pub summary: SummaryRecord,
+    pub starts: [u16; 128],
+}
+
+pub(crate) const NO_PART: PartRecord = PartRecord { start: 0, len: 0 };
+
+const NO_SUMMARY: SummaryRecord = SummaryRecord {
+    unit: 0,
+    mirrors: 0,
+    servers: 0,
+    flags: 0,
+    hint: 0,
+};
+
+pub(crate) fn part_record(p: Part) -> PartRecord
+    ensures { λ r. ⌜ r ≡ partRecord p ⌝ }
+{
+    PartRecord {
+        start: p.start,
+        len: p.len,
+    }
+}
+
+fn summary_record(s: Summary) -> SummaryRecord
+    ensures { λ r. ⌜ r ≡ summaryRecord s ⌝ }
+{
+    SummaryRecord {
+        unit: s.unit,
+        mirrors: s.mirrors,
+        servers: s.servers,
+        flags: s.flags,
+        hint: s.hint,
+    }
+}
+
+pub fn layout_result(l: LayoutRead) -> LayoutResult
+    ensures { λ r. ⌜ r ≡ layoutResult (layoutAnswer (l .answer) (l .starts)) ⌝ }
+{
+    let a = l.answer;
+    match a {
+        LayoutAnswer::Refused(e) => LayoutResult {
+            refusal: base::number(e),
+            summary: NO_SUMMARY,
+            starts: [0u16; 128],
+        },
+        LayoutAnswer::Value(s) => {
+            let summary = summary_record(s);
+            let starts = l.starts;
+            LayoutResult {
+                refusal: 0,
+                summary,
+                starts,
+            }
+        }
+    }
+}
+
+pub fn layout4_result(l: Layout4Read) -> Layout4Result
+    ensures { λ r. ⌜ r ≡ layout4Result (layout4Answer (l .answer) (l .starts)) ⌝ }
+{
+    let a = l.answer;
+    match a {
+        Layout4Answer::Refused(e) => Layout4Result {
+            refusal: base::number(e),
+            iomode: 0,
+            offset: 0,
+            length: 0,
+            last: 0,
+            body: NO_PART,
+            summary: NO_SUMMARY,
+            starts: [0u16; 128],
+        },
+        Layout4Answer::Value(f, s) => {
+            let iomode = f.iomode;
+            let place = f.body;
+            let body = part_record(place);
+            let summary = summary_record(s);
+            let starts = l.starts;
+            Layout4Result {
+                refusal: 0,
+                iomode: base::iomode_number(iomode),
+                offset: f.offset,
+                length: f.length,
+                last: f.last,
+                body,
+                summary,
+                starts,
+            }
+        }
+    }
+}

@@ -1,0 +1,274 @@
+/*
+ * Basilothyn: the pNFS client core, for C.
+ *
+ * A file has one table (which bytes are held, in which iomode, under which layout body) and one store (the bodies). The table goes in and comes
+ * out by value; the store is borrowed for the time of a call. Nothing is kept between calls, nothing is allocated, and no call fails in
+ * another way than by a refusal. A call that is refused gives back the table that it was handed and changes no byte that it borrowed.
+ *
+ * A borrowed run of bytes is a pointer and a length. The pointer must be valid for that many bytes, and not NULL, even where the length is 0; no two runs of
+ * one call may overlap.
+ */
+#ifndef BASILOTHYN_H
+#define BASILOTHYN_H
+
+#include <stddef.h>
+#include <stdint.h>
+
+#ifdef __cplusplus
+extern "C" {
+#endif
+
+/* Sizes. */
+enum {
+    BASILOTHYN_STORE_LENGTH = 32768, /* the bytes of a store: 8 slots of 4,096 */
+    BASILOTHYN_SEGMENTS = 32,        /* the most segments of an iomode */
+    BASILOTHYN_MIRRORS = 8,          /* the most mirrors of a layout */
+    BASILOTHYN_SERVERS = 16          /* the most data servers of a mirror */
+};
+
+/* The iomodes of NFS: a grant takes READ or RW, a return and a recall all three. */
+enum { BASILOTHYN_READ = 1, BASILOTHYN_RW = 2, BASILOTHYN_ANY = 3 };
+
+/* What a call answers: 0, or why it refuses. */
+enum basilothyn_refusal {
+    BASILOTHYN_ACCEPTED = 0,
+    BASILOTHYN_BYTES_RUN_OUT = 1,         /* the bytes run out before an item is complete */
+    BASILOTHYN_BYTES_LEFT_OVER = 2,       /* bytes are left over */
+    BASILOTHYN_IOMODE_NOT_ALLOWED = 3,    /* the iomode is not allowed here */
+    BASILOTHYN_LAYOUT_TYPE_UNKNOWN = 4,   /* the layout type is not 4, flexible files */
+    BASILOTHYN_RANGE_INVALID = 5,         /* a range or an I/O request breaks the rules */
+    BASILOTHYN_PADDING_NOT_ZERO = 6,      /* a padding byte is not 0 */
+    BASILOTHYN_BOOLEAN_INVALID = 7,       /* a boolean is neither 0 nor 1 */
+    BASILOTHYN_OUTSIDE_LIMIT = 8,         /* a count or length is outside its limit */
+    BASILOTHYN_SERVER_COUNT_DIFFERS = 9,  /* a later mirror's server count differs from the first's */
+    BASILOTHYN_UNIT_DISAGREES = 10,       /* stripe unit and server count disagree */
+    BASILOTHYN_FLAG_UNKNOWN = 11,         /* an unknown flag bit */
+    BASILOTHYN_VERSION_INVALID = 12,      /* a version entry breaks its rule */
+    BASILOTHYN_BINDING_DIFFERS = 13,      /* device id, or filehandle and version counts, differ in binding */
+    BASILOTHYN_NO_SUPPORTED_VERSION = 14, /* no version that the caller speaks */
+    BASILOTHYN_STATEID_NOT_ZERO = 15,     /* version 4 over a loosely coupled server, and the stateid is not zero */
+    BASILOTHYN_BEYOND_LAYOUT = 16,        /* the mirror or stripe number is beyond the layout */
+    BASILOTHYN_RIGHT_MISSING = 17,        /* the right for an I/O is missing at its first byte */
+    BASILOTHYN_UNSOUND = 20,              /* table or store is unsound */
+    BASILOTHYN_HELD_UNDER_OTHER_BODY = 21, /* a granted byte is held under another body */
+    BASILOTHYN_RECALLED_IN_RANGE = 22,    /* a granted byte is recalled */
+    BASILOTHYN_TOO_MANY_SEGMENTS = 23,    /* more than 32 segments in an iomode */
+    BASILOTHYN_NO_FREE_SLOT = 24,         /* no slot is left for a new body */
+    BASILOTHYN_NOTHING_HELD = 25,         /* a recall meets nothing that is held */
+    BASILOTHYN_OUTPUT_TOO_SHORT = 26,     /* the output is too short */
+    BASILOTHYN_ERROR_INVALID = 27         /* an error's status or operation is not allowed */
+};
+
+/* ---- the table */
+
+/* The bytes first to last, with one right: kind 0 none (then slot is 0), 1 granted, 2 recalled, under the body in a slot. */
+struct basilothyn_segment {
+    uint64_t first;
+    uint64_t last;
+    uint32_t kind;
+    uint32_t slot;
+};
+
+/* All 32 places of each iomode; the first read_count, rw_count of them are in use, the others are zeros. Treat it as opaque and hand back what
+ * the last call gave: numbers that are no table are refused with 20. */
+struct basilothyn_table {
+    struct basilothyn_segment read[BASILOTHYN_SEGMENTS];
+    struct basilothyn_segment rw[BASILOTHYN_SEGMENTS];
+    uint64_t read_count;
+    uint64_t rw_count;
+};
+
+/* What an event comes to: the refusal, and the table from now on (after a refusal the one handed over). */
+struct basilothyn_event_result {
+    uint32_t refusal;
+    struct basilothyn_table table;
+};
+
+/* The table of a file of which nothing is held. Its store is 32,768 zero bytes. */
+struct basilothyn_table basilothyn_empty_table(void);
+
+/* A grant: a layout4 as in the reply to LAYOUTGET. Its range becomes granted in its iomode under its body, which is laid into a slot of the store
+ * unless it is there already. Refusals in order: 20; those of the layout4 (1 to 11); 21, 22, 24, 23. */
+struct basilothyn_event_result basilothyn_grant(struct basilothyn_table table, uint8_t *store, size_t store_length, const uint8_t *bytes,
+                                                size_t length);
+
+/* A return: the range becomes free in the iomode (READ, RW or ANY), whatever it was, and slots that no segment names any more are zeroed. A length of
+ * 2^64 - 1 means through the last byte. Refusals in order: 20, 5, 3, 23. */
+struct basilothyn_event_result basilothyn_return(struct basilothyn_table table, uint8_t *store, size_t store_length, uint64_t offset,
+                                                 uint64_t length, uint32_t iomode);
+
+/* A recall: what is granted in the range and iomode becomes recalled; from now on no I/O goes there. Refusals in order: 20, 5, 3, 25, 23. */
+struct basilothyn_event_result basilothyn_recall(struct basilothyn_table table, uint8_t *store, size_t store_length, uint64_t offset,
+                                                 uint64_t length, uint32_t iomode);
+
+/* A revoke: every right is gone, and the store is zeros. Refusal: 20. */
+struct basilothyn_event_result basilothyn_revoke(struct basilothyn_table table, uint8_t *store, size_t store_length);
+
+/* ---- where an I/O goes */
+
+/* The first piece of a request: length bytes from offset on go to the data server with this stripe number in each mirror whose bit is set in
+ * mirrors (bit 0 is mirror 0), at the same offset there. iomode is the one that serves, slot has the layout body. All is 0 after a refusal. */
+struct basilothyn_locate_result {
+    uint32_t refusal;
+    uint32_t iomode;
+    uint32_t slot;
+    uint32_t stripe;
+    uint64_t offset;
+    uint64_t length;
+    uint32_t mirrors;
+};
+
+/* Where a read goes: to one mirror. Refusals in order: 20, 5, 17. Ask again behind the piece for the rest. */
+struct basilothyn_locate_result basilothyn_locate_read(struct basilothyn_table table, const uint8_t *store, size_t store_length,
+                                                       uint64_t offset, uint64_t length);
+
+/* Where a write goes: to every mirror, or with flag 8 to one. Refusals in order: 20, 5, 17. */
+struct basilothyn_locate_result basilothyn_locate_write(struct basilothyn_table table, const uint8_t *store, size_t store_length,
+                                                        uint64_t offset, uint64_t length);
+
+/* ---- the bodies of the wire
+ *
+ * A place is counted from the first byte of the body handed over. After a refusal all but the refusal is 0. */
+
+/* Where bytes stand in a body, and how many they are. */
+struct basilothyn_part {
+    size_t start;
+    size_t length;
+};
+
+/* A layout body: stripe unit, counts, flags, hint. */
+struct basilothyn_summary {
+    uint64_t unit;
+    uint32_t mirrors;
+    uint32_t servers;
+    uint32_t flags;
+    uint32_t hint;
+};
+
+/* The data server of a mirror and a stripe starts at starts[mirror * 16 + stripe]: there stand its device id (16 bytes), efficiency (4), stateid (16). */
+struct basilothyn_layout_result {
+    uint32_t refusal;
+    struct basilothyn_summary summary;
+    uint16_t starts[BASILOTHYN_MIRRORS * BASILOTHYN_SERVERS];
+};
+
+/* Reads a layout body (ff_layout4). Refusals: 1, 2, 6, 8, 9, 10, 11. */
+struct basilothyn_layout_result basilothyn_read_layout(const uint8_t *body, size_t length);
+
+/* offset and length as on the wire, the last byte of the range, where the body stands; starts count from the body's first byte. */
+struct basilothyn_layout4_result {
+    uint32_t refusal;
+    uint32_t iomode;
+    uint64_t offset;
+    uint64_t length;
+    uint64_t last;
+    struct basilothyn_part body;
+    struct basilothyn_summary summary;
+    uint16_t starts[BASILOTHYN_MIRRORS * BASILOTHYN_SERVERS];
+};
+
+/* Reads a layout4, as in the reply to LAYOUTGET. Refusals: those of the layout body, and 3, 4, 5. */
+struct basilothyn_layout4_result basilothyn_read_layout4(const uint8_t *bytes, size_t length);
+
+/* The classes of a netid. */
+enum {
+    BASILOTHYN_OTHER = 0,
+    BASILOTHYN_TCP = 1,
+    BASILOTHYN_TCP6 = 2,
+    BASILOTHYN_UDP = 3,
+    BASILOTHYN_UDP6 = 4,
+    BASILOTHYN_RDMA = 5,
+    BASILOTHYN_RDMA6 = 6
+};
+
+/* An address: the class of its netid, and where its text stands. */
+struct basilothyn_address {
+    uint32_t netid_class;
+    struct basilothyn_part text;
+};
+
+/* A version entry; tight is 1 for a tightly coupled server. */
+struct basilothyn_version {
+    uint32_t version;
+    uint32_t minor;
+    uint32_t rsize;
+    uint32_t wsize;
+    uint32_t tight;
+};
+
+struct basilothyn_device_result {
+    uint32_t refusal;
+    uint32_t address_count;
+    uint32_t version_count;
+    struct basilothyn_address addresses[8];
+    struct basilothyn_version versions[8];
+};
+
+/* Reads a device body (ff_device_addr4), as in the reply to GETDEVICEINFO. Refusals: 1, 2, 6, 7, 8, 12. */
+struct basilothyn_device_result basilothyn_read_device(const uint8_t *body, size_t length);
+
+/* How to speak to a data server: the version entry and its number, its filehandle in the layout body, and, if the entry is tight, where the stateid stands, else
+ * user and group. */
+struct basilothyn_bind_result {
+    uint32_t refusal;
+    uint32_t entry;
+    struct basilothyn_version version;
+    struct basilothyn_part filehandle;
+    size_t stateid;
+    struct basilothyn_part user;
+    struct basilothyn_part group;
+};
+
+/* Binds the data server of a mirror and a stripe to its device: layout body, device body, and the device id that the device body was fetched under, of 16 bytes.
+ * supported is a set of bits, 1, 2, 4, 8 for the versions 3, 4.0, 4.1, 4.2. Refusals in order: the layout body's, the device body's, 16, 8, 13, 14, 15. */
+struct basilothyn_bind_result basilothyn_bind(const uint8_t *layout, size_t layout_length, uint32_t mirror, uint32_t stripe,
+                                              const uint8_t *device, size_t device_length, const uint8_t *id, uint32_t supported);
+
+/* ---- error reports, for LAYOUTRETURN */
+
+/* What stands before the errors of a report, and how many errors follow. */
+struct basilothyn_report_head {
+    uint64_t offset;
+    uint64_t length;
+    uint8_t stateid[16];
+    uint32_t errors;
+};
+
+/* The first error of each report stands at errors_at, 24 bytes each: device id, status, operation. */
+struct basilothyn_reports_result {
+    uint32_t refusal;
+    uint32_t count;
+    struct basilothyn_report_head heads[8];
+    size_t errors_at[8];
+};
+
+/* Reads the body of an ff_layoutreturn4. Refusals: 1, 2, 5, 8, 27. */
+struct basilothyn_reports_result basilothyn_read_reports(const uint8_t *body, size_t length);
+
+struct basilothyn_report_heads {
+    struct basilothyn_report_head heads[8];
+};
+
+struct basilothyn_error {
+    uint8_t device[16];
+    uint32_t status;
+    uint32_t operation;
+};
+
+/* The body's length. */
+struct basilothyn_write_result {
+    uint32_t refusal;
+    uint64_t length;
+};
+
+/* Writes the body of an ff_layoutreturn4: the first count heads, and one list of errors, error_count long, which go to the reports in order. Bytes of the output
+ * behind the body stay. Refusals in order: 8 (more than 8 reports, a list of another length than the heads say), then report by report 5, 8, 27, then 26. */
+struct basilothyn_write_result basilothyn_write_report(uint32_t count, struct basilothyn_report_heads heads,
+                                                       const struct basilothyn_error *errors, size_t error_count, uint8_t *out,
+                                                       size_t out_length);
+
+#ifdef __cplusplus
+}
+#endif
+
+#endif

@@ -1,0 +1,127 @@
+//! What the independent implementation answers for a body, as the records that the exported functions give.
+
+use basilothyn::raw::*;
+use independent::binding::{Binding, Identity};
+use independent::device::{Device, NetidClass, VersionEntry};
+use independent::layout::LayoutSummary;
+use independent::layout4::{Layout4, BODY_IN_LAYOUT4};
+use independent::refusal::Refusal;
+use independent::report::{self, Reports};
+use independent::xdr::Extent;
+
+fn number(refusal: Refusal) -> u32 {
+    u32::from(refusal.number())
+}
+
+fn part(extent: Extent) -> PartRecord {
+    PartRecord { start: extent.start, length: extent.length }
+}
+
+fn summary(s: &LayoutSummary) -> SummaryRecord {
+    SummaryRecord { unit: s.unit, mirrors: s.mirrors, servers: s.servers, flags: s.flags, hint: s.hint }
+}
+
+pub fn layout(read: Result<LayoutSummary, Refusal>) -> LayoutResult {
+    match read {
+        Ok(s) => LayoutResult { refusal: 0, summary: summary(&s), starts: s.starts },
+        Err(refusal) => LayoutResult { refusal: number(refusal), summary: SummaryRecord::default(), starts: [0; 128] },
+    }
+}
+
+pub fn layout4(read: Result<Layout4, Refusal>) -> Layout4Result {
+    let (refusal, l) = match read {
+        Ok(l) => (0, Some(l)),
+        Err(refusal) => (number(refusal), None),
+    };
+    let last = |l: &Layout4| if l.length == u64::MAX { u64::MAX } else { l.offset + (l.length - 1) };
+    Layout4Result {
+        refusal,
+        iomode: l.as_ref().map_or(0, |l| l.iomode),
+        offset: l.as_ref().map_or(0, |l| l.offset),
+        length: l.as_ref().map_or(0, |l| l.length),
+        last: l.as_ref().map_or(0, last),
+        body: l.as_ref().map_or(PartRecord::default(), |l| PartRecord { start: BODY_IN_LAYOUT4, length: l.body_length }),
+        summary: l.as_ref().map_or(SummaryRecord::default(), |l| summary(&l.summary)),
+        starts: l.as_ref().map_or([0; 128], |l| l.summary.starts),
+    }
+}
+
+fn class(class: NetidClass) -> u32 {
+    match class {
+        NetidClass::Other => 0,
+        NetidClass::Tcp => 1,
+        NetidClass::Tcp6 => 2,
+        NetidClass::Udp => 3,
+        NetidClass::Udp6 => 4,
+        NetidClass::Rdma => 5,
+        NetidClass::Rdma6 => 6,
+    }
+}
+
+fn version(v: &VersionEntry) -> VersionRecord {
+    VersionRecord { version: v.version, minor: v.minor, rsize: v.rsize, wsize: v.wsize, tight: u32::from(v.tight) }
+}
+
+pub fn device(read: Result<Device, Refusal>) -> DeviceResult {
+    let mut result = DeviceResult::default();
+    match read {
+        Ok(d) => {
+            result.address_count = d.addresses().len() as u32;
+            result.version_count = d.versions().len() as u32;
+            for (place, a) in result.addresses.iter_mut().zip(d.addresses()) {
+                *place = AddressRecord { class: class(a.class), text: part(a.text) };
+            }
+            for (place, v) in result.versions.iter_mut().zip(d.versions()) {
+                *place = version(v);
+            }
+        }
+        Err(refusal) => result.refusal = number(refusal),
+    }
+    result
+}
+
+pub fn binding(bound: Result<Binding, Refusal>) -> BindResult {
+    let mut result = BindResult::default();
+    match bound {
+        Ok(b) => {
+            result.entry = b.entry_number as u32;
+            result.version = version(&b.entry);
+            result.filehandle = part(b.filehandle);
+            match b.identity {
+                Identity::Tight { stateid } => result.stateid = stateid.start,
+                Identity::Loose { user, group } => (result.user, result.group) = (part(user), part(group)),
+            }
+        }
+        Err(refusal) => result.refusal = number(refusal),
+    }
+    result
+}
+
+pub fn head(h: &report::ReportHead) -> ReportHead {
+    ReportHead { offset: h.offset, length: h.length, stateid: h.stateid, errors: h.error_count }
+}
+
+/// The errors of a report stand behind its head, which has 36 bytes, 24 bytes each.
+pub fn reports(read: Result<Reports, Refusal>) -> ReportsResult {
+    let mut result = ReportsResult::default();
+    match read {
+        Ok(r) => {
+            result.count = r.heads.len() as u32;
+            let mut at = 4;
+            for (i, h) in r.heads.iter().enumerate() {
+                result.heads[i] = head(h);
+                result.errors_at[i] = at + 36;
+                at += 36 + 24 * h.error_count as usize;
+            }
+        }
+        Err(refusal) => result.refusal = number(refusal),
+    }
+    result
+}
+
+pub fn written(length: Result<usize, Refusal>) -> WriteResult {
+    match length {
+        Ok(length) => WriteResult { refusal: 0, length: length as u64 },
+        Err(refusal) => WriteResult { refusal: number(refusal), length: 0 },
+    }
+}

@@ -1,0 +1,59 @@
+//! The cases of the wire: each body put to both sides.
+
+use crate::tally::Tally;
+use crate::{expected, same};
+use basilothyn::raw::{self, ErrorRecord, ReportHeads};
+use independent::binding::bind;
+use independent::cases::{Case, ReportWrite};
+use independent::device::read_device_body;
+use independent::layout::read_layout_body;
+use independent::layout4::read_layout4;
+use independent::report::{read_reports, write_reports};
+
+/// What stands in an output before it is written to.
+const FILL: u8 = 165;
+
+pub fn compare(case: &Case, tally: &mut Tally) -> Result<(), String> {
+    match case {
+        Case::LayoutBody(body) => {
+            let answered = raw::read_layout(body);
+            tally.count(answered.refusal);
+            same("the layout body", expected::layout(read_layout_body(body)), answered)
+        }
+        Case::Layout4(bytes) => {
+            let answered = raw::read_layout4(bytes);
+            tally.count(answered.refusal);
+            same("the layout4", expected::layout4(read_layout4(bytes)), answered)
+        }
+        Case::Device(body) => {
+            let answered = raw::read_device(body);
+            tally.count(answered.refusal);
+            same("the device body", expected::device(read_device_body(body)), answered)
+        }
+        Case::Bind(r) => {
+            let answered = raw::bind(r.layout_body, r.mirror, r.stripe, r.device_body, &r.device_id, r.supported_versions);
+            tally.count(answered.refusal);
+            same("the binding", expected::binding(bind(r)), answered)
+        }
+        Case::ReportRead(body) => {
+            let answered = raw::read_reports(body);
+            tally.count(answered.refusal);
+            same("the reports", expected::reports(read_reports(body)), answered)
+        }
+        Case::ReportWrite(case) => compare_writing(case, tally),
+        Case::Table(_) => Ok(()),
+    }
+}
+
+fn compare_writing(case: &ReportWrite, tally: &mut Tally) -> Result<(), String> {
+    let mut wanted = vec![FILL; case.output_length];
+    let expected = expected::written(write_reports(case.report_count, &case.heads, &case.errors, &mut wanted));
+    let heads = ReportHeads { heads: case.heads.each_ref().map(expected::head) };
+    let record = |e: &independent::report::DeviceError| ErrorRecord { device: e.device_id, status: e.status, operation: e.operation };
+    let errors: Vec<ErrorRecord> = case.errors.iter().map(record).collect();
+    let mut out = vec![FILL; case.output_length];
+    let answered = raw::write_report(case.report_count, heads, &errors, &mut out);
+    tally.count(answered.refusal);
+    same("the written length", expected, answered)?;
+    same("the written bytes", wanted, out)
+}

@@ -1,0 +1,101 @@
+//! The proved pNFS client core, with safe types: one [`Layouts`] for each file.
+
+pub mod raw;
+
+use raw::{EventResult, LocateResult, TableRecord, STORE_LENGTH};
+
+/// Why a call refuses; the numbers are those of `include/basilothyn.h`.
+#[derive(Clone, Copy, Debug, PartialEq, Eq)]
+pub struct Refusal(pub u32);
+
+#[derive(Clone, Copy, Debug, PartialEq, Eq)]
+pub enum Iomode {
+    Read = 1,
+    ReadWrite = 2,
+    Any = 3,
+}
+
+/// Where the first bytes of an I/O go.
+#[derive(Clone, Copy, Debug, PartialEq, Eq)]
+pub struct Piece {
+    /// The iomode that serves.
+    pub iomode: u32,
+    /// The slot of the layout body.
+    pub slot: u32,
+    /// The data server's stripe number.
+    pub stripe: u32,
+    /// The offset, in the file and on the server.
+    pub offset: u64,
+    pub length: u64,
+    /// A set of bits; bit 0 is mirror 0.
+    pub mirrors: u32,
+}
+
+/// What a client holds of one file: the table of rights, and the layout bodies.
+#[derive(Clone, Debug)]
+pub struct Layouts {
+    table: TableRecord,
+    store: Box<[u8]>,
+}
+
+impl Default for Layouts {
+    fn default() -> Self {
+        Layouts { table: raw::empty_table(), store: vec![0; STORE_LENGTH].into_boxed_slice() }
+    }
+}
+
+impl Layouts {
+    /// A `layout4` as in the reply to LAYOUTGET.
+    pub fn grant(&mut self, layout4: &[u8]) -> Result<(), Refusal> {
+        let result = raw::grant(self.table, &mut self.store, layout4);
+        self.keep(result)
+    }
+
+    /// A length of 2^64 - 1 means through the last byte.
+    pub fn layout_return(&mut self, offset: u64, length: u64, iomode: Iomode) -> Result<(), Refusal> {
+        let result = raw::layout_return(self.table, &mut self.store, offset, length, iomode as u32);
+        self.keep(result)
+    }
+
+    pub fn recall(&mut self, offset: u64, length: u64, iomode: Iomode) -> Result<(), Refusal> {
+        let result = raw::recall(self.table, &mut self.store, offset, length, iomode as u32);
+        self.keep(result)
+    }
+
+    pub fn revoke(&mut self) -> Result<(), Refusal> {
+        let result = raw::revoke(self.table, &mut self.store);
+        self.keep(result)
+    }
+
+    pub fn locate_read(&self, offset: u64, length: u64) -> Result<Piece, Refusal> {
+        piece(raw::locate_read(self.table, &self.store, offset, length))
+    }
+
+    pub fn locate_write(&self, offset: u64, length: u64) -> Result<Piece, Refusal> {
+        piece(raw::locate_write(self.table, &self.store, offset, length))
+    }
+
+    /// The layout body in a slot that a piece named.
+    pub fn body(&self, slot: u32) -> &[u8] {
+        let slot = &self.store[slot as usize * 4096..][..4096];
+        let length = u32::from_le_bytes([slot[0], slot[1], slot[2], slot[3]]) as usize;
+        &slot[6..6 + length]
+    }
+
+    fn keep(&mut self, result: EventResult) -> Result<(), Refusal> {
+        self.table = result.table;
+        accepted(result.refusal)
+    }
+}
+
+fn accepted(refusal: u32) -> Result<(), Refusal> {
+    match refusal {
+        0 => Ok(()),
+        number => Err(Refusal(number)),
+    }
+}
+
+fn piece(r: LocateResult) -> Result<Piece, Refusal> {
+    accepted(r.refusal)?;
+    Ok(Piece { iomode: r.iomode, slot: r.slot, stripe: r.stripe, offset: r.offset, length: r.length, mirrors: r.mirrors })
+}

@@ -1,0 +1,253 @@
+//! The exported functions as they are, and the records that they take and give. `include/basilothyn.h` says what each does.
+
+/// The most segments of an iomode.
+pub const SEGMENTS: usize = 32;
+
+/// The bytes of a store.
+pub const STORE_LENGTH: usize = 32_768;
+
+/// Kind 0 is none, 1 granted, 2 recalled; with none the slot is 0.
+#[repr(C)]
+#[derive(Clone, Copy, Debug, Default, PartialEq, Eq)]
+pub struct SegmentRecord {
+    pub first: u64,
+    pub last: u64,
+    pub kind: u32,
+    pub slot: u32,
+}
+
+#[repr(C)]
+#[derive(Clone, Copy, Debug, Default, PartialEq, Eq)]
+pub struct TableRecord {
+    pub read: [SegmentRecord; SEGMENTS],
+    pub rw: [SegmentRecord; SEGMENTS],
+    pub read_count: u64,
+    pub rw_count: u64,
+}
+
+#[repr(C)]
+#[derive(Clone, Copy, Debug, PartialEq, Eq)]
+pub struct EventResult {
+    pub refusal: u32,
+    pub table: TableRecord,
+}
+
+#[repr(C)]
+#[derive(Clone, Copy, Debug, PartialEq, Eq)]
+pub struct LocateResult {
+    pub refusal: u32,
+    pub iomode: u32,
+    pub slot: u32,
+    pub stripe: u32,
+    pub offset: u64,
+    pub length: u64,
+    pub mirrors: u32,
+}
+
+/// Where bytes stand in a body, and how many they are.
+#[repr(C)]
+#[derive(Clone, Copy, Debug, Default, PartialEq, Eq)]
+pub struct PartRecord {
+    pub start: usize,
+    pub length: usize,
+}
+
+#[repr(C)]
+#[derive(Clone, Copy, Debug, Default, PartialEq, Eq)]
+pub struct SummaryRecord {
+    pub unit: u64,
+    pub mirrors: u32,
+    pub servers: u32,
+    pub flags: u32,
+    pub hint: u32,
+}
+
+/// The start of a data server stands at 16 times its mirror and its stripe.
+#[repr(C)]
+#[derive(Clone, Copy, Debug, PartialEq, Eq)]
+pub struct LayoutResult {
+    pub refusal: u32,
+    pub summary: SummaryRecord,
+    pub starts: [u16; 128],
+}
+
+#[repr(C)]
+#[derive(Clone, Copy, Debug, PartialEq, Eq)]
+pub struct Layout4Result {
+    pub refusal: u32,
+    pub iomode: u32,
+    pub offset: u64,
+    pub length: u64,
+    pub last: u64,
+    pub body: PartRecord,
+    pub summary: SummaryRecord,
+    pub starts: [u16; 128],
+}
+
+#[repr(C)]
+#[derive(Clone, Copy, Debug, Default, PartialEq, Eq)]
+pub struct AddressRecord {
+    pub class: u32,
+    pub text: PartRecord,
+}
+
+#[repr(C)]
+#[derive(Clone, Copy, Debug, Default, PartialEq, Eq)]
+pub struct VersionRecord {
+    pub version: u32,
+    pub minor: u32,
+    pub rsize: u32,
+    pub wsize: u32,
+    pub tight: u32,
+}
+
+#[repr(C)]
+#[derive(Clone, Copy, Debug, Default, PartialEq, Eq)]
+pub struct DeviceResult {
+    pub refusal: u32,
+    pub address_count: u32,
+    pub version_count: u32,
+    pub addresses: [AddressRecord; 8],
+    pub versions: [VersionRecord; 8],
+}
+
+#[repr(C)]
+#[derive(Clone, Copy, Debug, Default, PartialEq, Eq)]
+pub struct BindResult {
+    pub refusal: u32,
+    pub entry: u32,
+    pub version: VersionRecord,
+    pub filehandle: PartRecord,
+    pub stateid: usize,
+    pub user: PartRecord,
+    pub group: PartRecord,
+}
+
+#[repr(C)]
+#[derive(Clone, Copy, Debug, Default, PartialEq, Eq)]
+pub struct ReportHead {
+    pub offset: u64,
+    pub length: u64,
+    pub stateid: [u8; 16],
+    pub errors: u32,
+}
+
+#[repr(C)]
+#[derive(Clone, Copy, Debug, Default, PartialEq, Eq)]
+pub struct ReportsResult {
+    pub refusal: u32,
+    pub count: u32,
+    pub heads: [ReportHead; 8],
+    pub errors_at: [usize; 8],
+}
+
+#[repr(C)]
+#[derive(Clone, Copy, Debug, Default, PartialEq, Eq)]
+pub struct ReportHeads {
+    pub heads: [ReportHead; 8],
+}
+
+#[repr(C)]
+#[derive(Clone, Copy, Debug, Default, PartialEq, Eq)]
+pub struct ErrorRecord {
+    pub device: [u8; 16],
+    pub status: u32,
+    pub operation: u32,
+}
+
+#[repr(C)]
+#[derive(Clone, Copy, Debug, Default, PartialEq, Eq)]
+pub struct WriteResult {
+    pub refusal: u32,
+    pub length: u64,
+}
+
+mod exported {
+    use super::*;
+
+    extern "C" {
+        pub fn basilothyn_empty_table() -> TableRecord;
+        pub fn basilothyn_grant(table: TableRecord, store: *mut u8, store_length: usize, bytes: *const u8, length: usize) -> EventResult;
+        pub fn basilothyn_return(table: TableRecord, store: *mut u8, store_length: usize, offset: u64, length: u64, iomode: u32) -> EventResult;
+        pub fn basilothyn_recall(table: TableRecord, store: *mut u8, store_length: usize, offset: u64, length: u64, iomode: u32) -> EventResult;
+        pub fn basilothyn_revoke(table: TableRecord, store: *mut u8, store_length: usize) -> EventResult;
+        pub fn basilothyn_locate_read(table: TableRecord, store: *const u8, store_length: usize, offset: u64, length: u64) -> LocateResult;
+        pub fn basilothyn_locate_write(table: TableRecord, store: *const u8, store_length: usize, offset: u64, length: u64) -> LocateResult;
+        pub fn basilothyn_read_layout(body: *const u8, length: usize) -> LayoutResult;
+        pub fn basilothyn_read_layout4(bytes: *const u8, length: usize) -> Layout4Result;
+        pub fn basilothyn_read_device(body: *const u8, length: usize) -> DeviceResult;
+        pub fn basilothyn_bind(
+            layout: *const u8,
+            layout_length: usize,
+            mirror: u32,
+            stripe: u32,
+            device: *const u8,
+            device_length: usize,
+            id: *const [u8; 16],
+            supported: u32,
+        ) -> BindResult;
+        pub fn basilothyn_read_reports(body: *const u8, length: usize) -> ReportsResult;
+        pub fn basilothyn_write_report(
+            count: u32,
+            heads: ReportHeads,
+            errors: *const ErrorRecord,
+            error_count: usize,
+            out: *mut u8,
+            out_length: usize,
+        ) -> WriteResult;
+    }
+}
+
+// Each function below hands on slices, which are valid for their lengths and do not overlap, as the borrow checker has seen.
+
+pub fn empty_table() -> TableRecord {
+    unsafe { exported::basilothyn_empty_table() }
+}
+
+pub fn grant(table: TableRecord, store: &mut [u8], bytes: &[u8]) -> EventResult {
+    unsafe { exported::basilothyn_grant(table, store.as_mut_ptr(), store.len(), bytes.as_ptr(), bytes.len()) }
+}
+
+pub fn layout_return(table: TableRecord, store: &mut [u8], offset: u64, length: u64, iomode: u32) -> EventResult {
+    unsafe { exported::basilothyn_return(table, store.as_mut_ptr(), store.len(), offset, length, iomode) }
+}
+
+pub fn recall(table: TableRecord, store: &mut [u8], offset: u64, length: u64, iomode: u32) -> EventResult {
+    unsafe { exported::basilothyn_recall(table, store.as_mut_ptr(), store.len(), offset, length, iomode) }
+}
+
+pub fn revoke(table: TableRecord, store: &mut [u8]) -> EventResult {
+    unsafe { exported::basilothyn_revoke(table, store.as_mut_ptr(), store.len()) }
+}
+
+pub fn locate_read(table: TableRecord, store: &[u8], offset: u64, length: u64) -> LocateResult {
+    unsafe { exported::basilothyn_locate_read(table, store.as_ptr(), store.len(), offset, length) }
+}
+
+pub fn locate_write(table: TableRecord, store: &[u8], offset: u64, length: u64) -> LocateResult {
+    unsafe { exported::basilothyn_locate_write(table, store.as_ptr(), store.len(), offset, length) }
+}
+
+pub fn read_layout(body: &[u8]) -> LayoutResult {
+    unsafe { exported::basilothyn_read_layout(body.as_ptr(), body.len()) }
+}
+
+pub fn read_layout4(bytes: &[u8]) -> Layout4Result {
+    unsafe { exported::basilothyn_read_layout4(bytes.as_ptr(), bytes.len()) }
+}
+
+pub fn read_device(body: &[u8]) -> DeviceResult {
+    unsafe { exported::basilothyn_read_device(body.as_ptr(), body.len()) }
+}
+
+pub fn bind(layout: &[u8], mirror: u32, stripe: u32, device: &[u8], id: &[u8; 16], supported: u32) -> BindResult {
+    unsafe { exported::basilothyn_bind(layout.as_ptr(), layout.len(), mirror, stripe, device.as_ptr(), device.len(), id, supported) }
+}
+
+pub fn read_reports(body: &[u8]) -> ReportsResult {
+    unsafe { exported::basilothyn_read_reports(body.as_ptr(), body.len()) }
+}
+
+pub fn write_report(count: u32, heads: ReportHeads, errors: &[ErrorRecord], out: &mut [u8]) -> WriteResult {
+    unsafe { exported::basilothyn_write_report(count, heads, errors.as_ptr(), errors.len(), out.as_mut_ptr(), out.len()) }
+}
