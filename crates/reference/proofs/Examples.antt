@@ -15,4 +15,4 @@ use Rattle.reference.specs.Cases.{AllHold, bodyOf, cases, grantBytes, se
 
 pub cases-hold : AllHold cases
 unfolding answers run answerTo modelAfter verdict act tooMany segmentsIn ifNamed meets anyByte inLowest noneEmpty slotOf inSlots afterAt covers rangeOrder anyBelow inFront scan segmentsOf withByte sameBytes iomodeOf own grantOrder given pick bodyOf servers grantBytes beBytes beFrom beValue layout4 layout4At frameAt rangeAt rangeLast requestLast grantIomodeOf then inside whole manyAt allZero bytesAt countAt numAt opaqueAt headAt handlesAt serverAt frontAt layoutAt layoutBody mirrorsAt tailAt unitFits
-cases-hold = ((refl, refl, refl), ((refl, refl, refl), ((refl, refl, refl), ((refl, refl, refl), ((refl, refl, refl), ((refl, refl, refl), tt))))))
+cases-hold = ((refl, refl, refl), ((refl, refl, refl), ((refl, refl, refl), ((refl, refl, refl), ((refl, refl, refl), ((refl, refl, refl), ((refl, refl, refl), tt)))))))

@@ -61,8 +61,16 @@ returnsFrom (suc n) x = Return x 1 2 ∷ returnsFrom n (x + 2)
 
 abbrev pub cases : List Case
 cases =
-    -- a recall in READ leaves what is held in RW
+    -- a recall of bytes that are not held is 25, whatever is held beside them
     record {
+      last = 120;
+      events = grantOf 0 100 2 0 ∷ Recall 100 5 2 ∷ Recall 0 100 1 ∷ [];
+      numbers = 0 ∷ 25 ∷ 25 ∷ [];
+      read = [];
+      rw = grantedIn 0 0 99 ∷ [];
+    }
+    -- a recall in READ leaves what is held in RW
+    ∷ record {
       last = 120;
       events = grantOf 0 100 2 0 ∷ grantOf 0 100 1 0 ∷ Recall 10 10 1 ∷ [];
       numbers = 0 ∷ 0 ∷ 0 ∷ [];
