@@ -1,4 +1,4 @@
--- The answer to a whole question: a value, or the number of the first fault met.
+-- The answer to a whole question: a value, or the number of the first fault met. "A refusal gives its number, no other result".
 use Prim.Native.Nat.{ℕ}
 use mathlib.Core.Bool.{Bool, true, false}
 

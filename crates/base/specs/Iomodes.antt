@@ -24,6 +24,7 @@ iomodeOf n =
 unfoldable pub grantIomodeOf : ℕ → Answer Iomode
 grantIomodeOf n = pick (eqb n 1) (accepted Read) (pick (eqb n 2) (accepted ReadWrite) (refused 3))
 
+-- what the code's answer stands for
 abbrev pub answerOfIomode : ReadIomode → Answer Iomode
 answerOfIomode (Value m) = accepted m
 answerOfIomode (Refused e) = refused (numberOf e)

@@ -8,15 +8,15 @@ use Rattle.base.specs.declared.refusal.Refusal.the-variants.{RangeInvali
 use Rattle.base.specs.declared.range.Last.{Last}
 use Rattle.base.specs.declared.range.Last.the-variants.{At, Refused}
 
--- the last byte that a file offset can name
+-- the last byte of a file: "byte 2^64 - 1"
 abbrev pub lastByte : ℕ
 lastByte = 2 ^ 64 - 1
 
--- what offset and length may come to together
+-- "offset + length at most 2^64 - 1"
 abbrev pub largestSum : ℕ
 largestSum = 2 ^ 64 - 1
 
--- the length that means "through the last byte"
+-- "A length of 2^64 - 1 means through byte 2^64 - 1, from any offset."
 abbrev pub toTheEnd : ℕ
 toTheEnd = 2 ^ 64 - 1
 
@@ -26,10 +26,11 @@ requestLast offset len =
     pick (leb 1 len) (pick (leb (offset + len) largestSum) (accepted (offset + len - 1)) (refused 5)) (refused 5)
 
 -- "A range has a length above 0. A length of 2^64 - 1 means through byte 2^64 - 1, from any offset. Otherwise offset + length must be at
--- most 2^64 - 1."
+-- most 2^64 - 1.": for other lengths the rule is the one for I/O requests
 unfoldable pub rangeLast : ℕ → ℕ → Answer ℕ
 rangeLast offset len = pick (eqb len toTheEnd) (accepted lastByte) (requestLast offset len)
 
+-- what the code's answer stands for
 abbrev pub answerOfLast : Last → Answer ℕ
 answerOfLast (At last) = accepted last
 answerOfLast (Refused e) = refused (numberOf e)

@@ -1,4 +1,4 @@
--- The scope's table of refusal numbers.
+-- The scope's table of refusal numbers; 18 and 19 are not used.
 use Prim.Native.Nat.{ℕ}
 use Rattle.base.specs.declared.refusal.Refusal.{Refusal}
 use Rattle.base.specs.declared.refusal.Refusal.the-variants.{BytesRunOut, BytesLeftOver, IomodeNotAllowed, LayoutTypeUnknown, RangeInvalid, PaddingNotZero, BooleanInvalid, OutsideLimit, ServerCountDiffers, UnitDisagrees, FlagUnknown, VersionInvalid, BindingDiffers, NoSupportedVersion, StateidNotZero, BeyondLayout, RightMissing, Unsound, HeldUnderOtherBody, RecalledInRange, TooManySegments, NoFreeSlot, NothingHeld, OutputTooShort, ErrorInvalid}

@@ -31,7 +31,7 @@ valueOf (no n) = refused n
 abbrev pub bit : ℕ → ℕ → Bool
 bit b set = eqb (set / b % 2) 1
 
--- "bits 1, 2, 4, 8 for 3, 4.0, 4.1, 4.2"
+-- "bits 1, 2, 4, 8 for 3, 4.0, 4.1, 4.2"; an accepted entry is one of these four
 unfoldable pub supports : ℕ → Version → Bool
 supports set v =
     pick (eqb (v .version) 3) (eqb (set % 2) 1)
@@ -78,6 +78,7 @@ serverBound s start versions count id set =
     must (matches s server count id) 13
     (given (chosenFrom set 0 (take count versions)) λ i. entryBound s server (getD versions i blankVersion) i)
 
+-- "Check layout body, device body, 16, 8, 13, 14, 15."
 unfoldable pub boundTo : List ℕ → ℕ → ℕ → List ℕ → List ℕ → ℕ → Answer Bound
 boundTo layout mirror stripe device id set =
     given (layoutBody layout) λ l.

@@ -1,5 +1,12 @@
 // The theorems that the documents cite, each as the `ensures` of an empty function, so that it stands before a reader's eyes and the gate fails if
 // it goes. A statement needs only the definitions that it names.
+//
+// Demand 1 and the first sentence of demand 2 are the contracts themselves: no public function has a `requires`, each returns, and its one
+// `ensures` is an equation with a definition in specs/, which quotes the scope paper. `layoutBody` is what `layout::read_layout` answers,
+// `deviceBody` `device::read_device`, `boundTo` `binding::bind`, `reportBody` `report::read_reports`, `reportsWritten` both writers of reports,
+// `called` the four events, `routed` `route::locate`, `calledOn` the exported events. Here stands what follows from these, and demand 3.
+//
+// `accepted v` is an answer with its value, `refused n` a refusal with the scope paper's number, and `n ≡ 0 → ⊥` says that n is not 0.
 ghost use Prim.Native.Nat.{ℕ, _+_, _-_, _*_, _/_, _^_, _<_, _≤_};
 ghost use mathlib.Core.Path.{_≡_};
 ghost use mathlib.Core.Logic.{_⊎_};
@@ -45,25 +52,27 @@ pub fn numbers_read_are_written()
     ensures { λ r. ⌜ ((k : ℕ) (bs : List ℕ) → length bs ≡ k → AllBytes bs → beBytes k (beValue bs) ≡ bs) ⌝ }
 {}
 
-// The start of mirror m's server k is at the index m * 16 + k.
+// "says where each server starts, by mirror and by stripe": in the 128 starts of an accepted body, which are `startsOf` its mirrors, the start of
+// mirror m's server k is at the index m * 16 + k.
 pub fn starts_are_by_mirror_and_stripe()
     ensures { λ r. ⌜ ((mirrors : List (List Server)) → ((m : ℕ) → length (getD mirrors m []) ≤ 16)
         → (m k : ℕ) → k < 16 → getD (startsOf mirrors) (m * 16 + k) 0 ≡ getD (map (λ v. v .device) (getD mirrors m [])) k 0) ⌝ }
 {}
 
-// At each used start of an accepted body stands a data server: its device id, efficiency, stateid and filehandle count.
+// At each used start of an accepted body stands a data server, its device id, efficiency, stateid and filehandle count where RFC 8435 has them.
 pub fn starts_are_servers()
     ensures { λ r. ⌜ ((s : List ℕ) (l : Layout) → layoutBody s ≡ accepted l
         → (m k : ℕ) → m < l .summary .mirrors → k < l .summary .servers → ServerStands s (getD (l .starts) (m * 16 + k) 0)) ⌝ }
 {}
 
-// Places of no data server hold 0.
+// "with 0 in unused places".
 pub fn other_starts_are_zero()
     ensures { λ r. ⌜ ((s : List ℕ) (l : Layout) → layoutBody s ≡ accepted l
         → (m k : ℕ) → k < 16 → (l .summary .mirrors ≤ m) ⊎ (l .summary .servers ≤ k) → getD (l .starts) (m * 16 + k) 0 ≡ 0) ⌝ }
 {}
 
-// A binding refuses with the number of the layout body, of the device body, or with 16, 8, 13, 14 or 15: what it reads again is there.
+// "Nothing else is refused": a binding refuses with the number of the layout body, of the device body, or with 16, 8, 13, 14 or 15. It reads the
+// server and the filehandle again, and that never fails.
 pub fn bindings_refuse_as_listed()
     ensures { λ r. ⌜ ((layout : List ℕ) (mirror stripe : ℕ) (device id : List ℕ) (supported n : ℕ)
         → boundTo layout mirror stripe device id supported ≡ refused n
@@ -71,14 +80,15 @@ pub fn bindings_refuse_as_listed()
         ⊎ ((n ≡ 16) ⊎ ((n ≡ 8) ⊎ ((n ≡ 13) ⊎ ((n ≡ 14) ⊎ (n ≡ 15))))))) ⌝ }
 {}
 
-// Reading what was written gives the same reports, and at their places the same errors.
+// Reading what was written gives the same reports, and at their places the same errors, for values that their fields can hold. The first report
+// stands at 4, behind the count.
 pub fn reports_written_are_read()
     ensures { λ r. ⌜ ((count : ℕ) (heads : List ReportHead) (errors : List ErrorRecord) (room : ℕ) (bs : List ℕ)
         → Each HeadFits (take count heads) → Each RecordFits errors → reportsWritten count heads errors room ≡ accepted bs
         → (reportBody bs ≡ accepted (placed (take count heads) 4)) × (recordsIn bs (placed (take count heads) 4) ≡ errors)) ⌝ }
 {}
 
-// Writing what was read gives the same bytes.
+// Writing what was read gives the same bytes, so no two bodies have the same reports and errors. room: the output's length.
 pub fn reports_read_are_written()
     ensures { λ r. ⌜ ((bs : List ℕ) (reports : List Report) (room : ℕ) → AllBytes bs → length bs ≤ room → reportBody bs ≡ accepted reports
         → reportsWritten (length reports) (headsOf reports) (recordsIn bs reports) room ≡ accepted bs) ⌝ }
@@ -90,8 +100,9 @@ pub fn no_report_is_eight_zeros()
         × (reportBody (replicate 8 0) ≡ accepted []) ⌝ }
 {}
 
-// Demand 3, of the calls that grant, layout_return, recall and revoke are proved to be: after every list of events from the empty table and the
-// zeroed store their answers, table and store are the reference model's. Demand3 (reference/specs/Claim.antt) has its parts, one a sentence.
+// Demand 3, undivided, of the calls that grant, layout_return, recall and revoke are proved to be (the `ensures` in events/src/grants.rt and
+// ranges.rt): after every list of events from the empty table and the zeroed store their answers, table and store are those of the reference model,
+// which the scope paper calls the ledger (reference/specs/Model.antt). `Agreed` in reference/specs/Claim.antt has one field for each sentence.
 pub fn demand_3()
     ensures { λ r. ⌜ Demand3 called ⌝ }
 {}
@@ -114,19 +125,19 @@ pub fn table_examples_hold()
     ensures { λ r. ⌜ cases.AllHold cases.cases ⌝ }
 {}
 
-// A refused event leaves table and store as they were, whatever they are.
+// Demand 1 of the events: a refused one leaves table and store as they were, whatever they are.
 pub fn refused_events_change_nothing()
     ensures { λ r. ⌜ ((e : Event) (t : Table) (store : List ℕ)
         → (called e t store .answer ≡ 0 → ⊥) → (called e t store .table ≡ t) × (called e t store .store ≡ store)) ⌝ }
 {}
 
-// Table and store stay sound, so that 20 never comes.
+// After every list of events table and store are sound. `called` refuses with 20 only where they are not, so after calls alone 20 never comes.
 pub fn events_leave_sound_tables()
     ensures { λ r. ⌜ ((es : List Event) → AllFit es
         → sound (tableLeft called es emptyTable (replicate 32768 0)) (storeLeft called es emptyTable (replicate 32768 0)) ≡ true) ⌝ }
 {}
 
-// A return or a recall of the whole file, and a revoke, never meet 23, on whatever table.
+// "a whole-file recall or return (offset 0, length 2^64 - 1) and a revoke never meet 23", on whatever table of 64-bit numbers (`InFile`).
 pub fn whole_file_events_always_fit()
     ensures { λ r. ⌜ ((t : Table) (store : List ℕ) → InFile (listOf (t .read)) → InFile (listOf (t .rw)) → (number : ℕ)
         → (called (Return 0 toTheEnd number) t store .answer ≡ 23 → ⊥)
@@ -134,7 +145,7 @@ pub fn whole_file_events_always_fit()
         × (called Revoke t store .answer ≡ 23 → ⊥)) ⌝ }
 {}
 
-// An answered piece lies in its request and, with more than one server, in one stripe unit.
+// Where an I/O goes: an answered piece begins with its request, is not empty and not longer, and with more than one server lies in one stripe unit.
 pub fn pieces_lie_in_request_and_unit()
     ensures { λ r. ⌜ ((write : Bool) (t : Table) (store : List ℕ) (offset len : ℕ) (p : Piece) → routed write t store offset len ≡ accepted p
         → (1 ≤ p .length) × (p .length ≤ len) × (p .offset ≡ offset)
@@ -142,7 +153,7 @@ pub fn pieces_lie_in_request_and_unit()
         → offset / l .summary .unit ≡ (offset + p .length - 1) / l .summary .unit)) ⌝ }
 {}
 
-// And in one granted segment of the iomode that it names.
+// An answered piece lies in one segment, granted under the slot that it names; for a write that is a segment of RW.
 pub fn pieces_lie_in_granted_segments()
     ensures { λ r. ⌜ ((write : Bool) (t : Table) (store : List ℕ) (offset len : ℕ) (p : Piece) → routed write t store offset len ≡ accepted p
         → PieceStands write t offset p) ⌝ }
@@ -154,7 +165,7 @@ pub fn writes_need_a_grant()
         → rightAt (listIn t RW) offset ≡ Granted (p .slot)) ⌝ }
 {}
 
-// An I/O request is refused with 20, 5 or 17 and nothing else: the body of a granted segment is always read.
+// "Nothing else is refused": an I/O request is refused with 20, 5 or 17. It reads the layout body of a granted segment, and that never fails.
 pub fn requests_refuse_as_listed()
     ensures { λ r. ⌜ ((write : Bool) (t : Table) (store : List ℕ) (offset len n : ℕ) → routed write t store offset len ≡ refused n
         → (n ≡ 20) ⊎ (n ≡ 5) ⊎ (n ≡ 17)) ⌝ }
@@ -166,7 +177,7 @@ pub fn records_stand_for_tables()
         × ((given : TableRecord) (t : Table) → tableIn given ≡ accepted t → recordOf t ≡ given) ⌝ }
 {}
 
-// A refused call over records gives back the record that it was handed, whatever that is, and leaves the store as it was.
+// Demand 1 of the exported events: a refused one gives back the record that it was handed, whatever that is, and leaves the store as it was.
 pub fn refused_calls_keep_records()
     ensures { λ r. ⌜ ((e : Event) (given : TableRecord) (store : List ℕ)
         → (calledOn e given store .refusal ≡ 0 → ⊥)

@@ -1,4 +1,4 @@
--- The device body: "address count (1 to 8), each ..; version count (1 to 8), each ..".
+-- The device body, ff_device_addr4 of RFC 8435, 4.1: "address count (1 to 8), each ..; version count (1 to 8), each ..".
 use Prim.Native.Nat.{ℕ}
 use mathlib.Core.List.{List}
 use lib.ListN.{length, replicate}
@@ -31,6 +31,7 @@ pub record Device : Type 0 where
   pub versionCount : ℕ
   pub versions : List Version
 
+-- the body, front to back
 unfoldable pub deviceAt : List ℕ → ℕ → Res Device
 deviceAt s at =
     then (listAt addressAt blankAddress s at) λ a p.

@@ -1,4 +1,4 @@
--- "each version, minor, rsize, wsize (4 each) and the tightly-coupled boolean"
+-- ff_device_versions4 of RFC 8435, 4.1: "each version, minor, rsize, wsize (4 each) and the tightly-coupled boolean"
 use Prim.Native.Nat.{ℕ}
 use mathlib.Core.List.{List}
 use mathlib.Core.Bool.{Bool, false, not, _&&_, _||_}
@@ -16,7 +16,7 @@ fitsVersion3 v = eqb (v .version) 3 && (eqb (v .minor) 0 && not (v .tight))
 abbrev pub fitsVersion4 : Version → Bool
 fitsVersion4 v = eqb (v .version) 4 && leb (v .minor) 2
 
--- "sizes are above 0 (ours)"; there is no version but 3 and 4
+-- "sizes are above 0 (ours)"; RFC 8435 has no version but 3 and 4
 unfoldable pub versionFits : Version → Bool
 versionFits v = leb 1 (v .rsize) && (leb 1 (v .wsize) && (fitsVersion3 v || fitsVersion4 v))
 

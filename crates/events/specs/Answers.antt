@@ -1,4 +1,4 @@
--- What an outcome says.
+-- What an outcome says: 0 for accepted, else the refusal's number.
 use Prim.Native.Nat.{ℕ}
 use mathlib.Core.List.{List}
 use Rattle.base.specs.Refusals.{numberOf}

@@ -75,7 +75,7 @@ obeyed (accepted o) t store = byDeed (o .deed) o t store
 unfoldable pub called : Event → Table → List ℕ → Left
 called e t store = pick (sound t store) (obeyed (own e) t store) (refusedWith 20 t store)
 
--- segments that end within the file, as those of 64-bit numbers do
+-- segments that end within the file, as all do whose last byte is a 64-bit number
 unfoldable pub InFile : List Segment → Type 0
 InFile [] = Unit {0}
 InFile (s ∷ l) = (s .last ≤ lastByte) × InFile l

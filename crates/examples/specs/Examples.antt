@@ -19,7 +19,7 @@ use Rattle.reference.specs.Model.{Recall, Return}
 pub data Example : Type 0 where
   -- events on a short file: their answers, and the segments after them
   Events : Case → Example
-  -- these segments are held in RW under a body in slot 0; a write of so many bytes from an offset on; its stripe, and the length of its piece
+  -- these segments are held in RW under a body in slot 0; the offset and the length of a write; its stripe, and the length of its piece
   Write : Body → List Segment → ℕ → ℕ → Answer (ℕ × ℕ) → Example
   -- offset and length of a range, and its last byte
   Range : ℕ → ℕ → Answer ℕ → Example

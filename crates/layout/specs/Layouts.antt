@@ -1,3 +1,4 @@
+-- ff_layout4 and ff_mirror4 of RFC 8435, 5.1.
 -- "Layout body: stripe unit (8); mirror count (4) and mirrors; flags (4); statistics hint (4, any). A mirror: server count (4) and servers."
 use Prim.Native.Nat.{ℕ, _-_}
 use mathlib.Core.Bool.{Bool}
@@ -52,11 +53,12 @@ rows (m ∷ ms) = padded 16 0 (map (λ v. v .device) m) ++ rows ms
 unfoldable pub startsOf : List (List Server) → List ℕ
 startsOf mirrors = padded 128 0 (rows mirrors)
 
--- the reader's summary
+-- "The reader's summary": the numbers, and where each server starts
 pub record Layout : Type 0 where
   pub summary : Summary
   pub starts : List ℕ
 
+-- the body, front to back
 unfoldable pub layoutAt : List ℕ → Res Layout
 layoutAt s =
     then (frontAt s 0) λ front p1.

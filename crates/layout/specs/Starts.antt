@@ -1,4 +1,4 @@
--- The table of starts as the loops fill it: what they read, stored from an index on.
+-- The table of starts as the loops fill it: what they read, stored from an index on. A step in between: `startsOf` says what comes of it.
 use Prim.Native.Nat.{ℕ, _+_}
 use mathlib.Core.List.{List, [], _∷_, map}
 use lib.Seq.{sets}

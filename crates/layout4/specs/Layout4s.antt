@@ -31,7 +31,7 @@ frameAt s at =
     then (numAt 4 s p3) λ kind p4.
     pick (eqb kind 4) (then (countAt 0 4090 s p4) λ size p5. ok (record { range = range; iomode = iomode; size = size }) p5) (no 4)
 
--- a layout4 and the summary of its body
+-- frame: a layout4, in which `body` is where the body's bytes stand; body: the summary of what these bytes say
 pub record Whole : Type 0 where
   pub frame : Layout4
   pub body : Layout

@@ -1,4 +1,4 @@
--- "each a netid (1 to 8 bytes) and an address (1 to 64 bytes)"
+-- netaddr4, the element of RFC 8435's multipath_list4: "each a netid (1 to 8 bytes) and an address (1 to 64 bytes)"
 use Prim.Native.Nat.{ℕ}
 use mathlib.Core.List.{List}
 use Rattle.numbers.specs.Numbers.{bytesFrom}

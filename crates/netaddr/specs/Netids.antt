@@ -25,6 +25,7 @@ rdma = 114 ∷ 100 ∷ 109 ∷ 97 ∷ []
 abbrev pub rdma6 : List ℕ
 rdma6 = 114 ∷ 100 ∷ 109 ∷ 97 ∷ 54 ∷ []
 
+-- the whole netid is compared: its length, and each byte
 unfoldable pub classOf : List ℕ → NetidClass
 classOf s =
     pick (sameBytes s tcp) Tcp

@@ -28,7 +28,7 @@ unfoldable pub beBytes : ℕ → ℕ → List ℕ
 beBytes zero v = []
 beBytes (suc k) v = beBytes k (v / 256) ++ (v % 256 ∷ [])
 
--- the number of the bytes, the lowest first
+-- "little-endian", as in the store's slots: the number of the bytes, the lowest first
 unfoldable pub leValue : List ℕ → ℕ
 leValue [] = 0
 leValue (b ∷ bs) = leValue bs * 256 + b
@@ -38,13 +38,14 @@ unfoldable pub leBytes : ℕ → ℕ → List ℕ
 leBytes zero v = []
 leBytes (suc k) v = v % 256 ∷ leBytes k (v / 256)
 
--- the numbers of the k bytes at a place; 0 where the bytes run out
+-- the number of the k bytes at a place, big-endian and little-endian; 0 where the bytes run out
 unfoldable pub beAt : ℕ → List ℕ → ℕ → ℕ
 beAt k s at = pick (leb (at + k) (length s)) (beValue (bytesFrom k s at)) 0
 
 unfoldable pub leAt : ℕ → List ℕ → ℕ → ℕ
 leAt k s at = pick (leb (at + k) (length s)) (leValue (bytesFrom k s at)) 0
 
+-- whether two lists are of one length and equal in each byte
 unfoldable pub sameBytes : List ℕ → List ℕ → Bool
 sameBytes [] [] = true
 sameBytes [] (y ∷ ys) = false

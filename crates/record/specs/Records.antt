@@ -1,4 +1,4 @@
--- A table as plain numbers. Numbers that are no table are unsound: 20.
+-- A table as plain numbers, in which it crosses to C. Numbers that are no table are unsound: 20.
 use Prim.Native.Nat.{ℕ}
 use mathlib.Core.List.{List, [], _∷_, map}
 use lib.Dec.{eqb}

@@ -26,6 +26,7 @@ bodyOf unit n hint = beBytes 8 unit ++ beBytes 4 1 ++ beBytes 4 n ++ servers n +
 unfoldable pub grantBytes : ℕ → ℕ → ℕ → ℕ → List ℕ
 grantBytes offset len number hint = beBytes 8 offset ++ beBytes 8 len ++ beBytes 4 number ++ beBytes 4 4 ++ beBytes 4 80 ++ bodyOf 0 1 hint
 
+-- the grant of a range in an iomode, by its number, under the body with a hint
 abbrev pub grantOf : ℕ → ℕ → ℕ → ℕ → Event
 grantOf offset len number hint = Grant (grantBytes offset len number hint)
 

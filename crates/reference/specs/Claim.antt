@@ -16,7 +16,7 @@ use Rattle.store.specs.Store.{Slot, empty, holds, storeOf, Body}
 use Rattle.reference.specs.Model.{ByteRight, none, granted, recalled, Model, start, Event, Grant, Return, Recall, Revoke, Order, own, covers, afterAt, ifAccepted, answers, run, tableOf}
 use Rattle.reference.specs.Sound.{slotsIn}
 
--- what a call comes to: its answer (0 for accepted), and the table and the store that it leaves
+-- what a call leaves behind: its answer (0 for accepted), the table and the store; no contrary of a right
 pub record Left : Type 0 where
   pub answer : ℕ
   pub table : Table
@@ -50,12 +50,13 @@ withBody ss None = none
 withBody ss (Granted s) = underSlot granted (getD ss (s .0) empty)
 withBody ss (Recalled s) = underSlot recalled (getD ss (s .0) empty)
 
+-- the right of byte x in iomode m, with its body
 unfoldable pub rightIn : Table → List ℕ → Mode → ℕ → ByteRight
 rightIn t store m x = withBody (slotsIn t store) (rightAt (listIn t m) x)
 
 -- ---- the rights that the accepted events give
 
--- the order of an event that was answered with a number: one where it was accepted
+-- what an event orders, in a list of one, where its answer is 0; nothing where it was refused
 unfoldable pub orderOf : Answer Order → ℕ → List Order
 orderOf (accepted o) answer = ifAccepted answer (o ∷ []) []
 orderOf (refused n) answer = []
@@ -91,6 +92,7 @@ pub record Showing (ss : List Slot) (right : ℕ → ByteRight) (l : List Segmen
 -- ---- a list of calls, "each handed the table and shelf that the last one left"
 
 module _ (call : Calls) where
+  -- the answers, and the table and the store that the last call leaves
   unfoldable pub answered : List Event → Table → List ℕ → List ℕ
   answered [] t store = []
   answered (e ∷ es) t store = call e t store .answer ∷ answered es (call e t store .table) (call e t store .store)

@@ -55,12 +55,14 @@ pub record Order : Type 0 where
   pub first : ℕ
   pub last : ℕ
 
+-- the range (5), then the iomode (3)
 unfoldable pub rangeOrder : Deed → ℕ → ℕ → ℕ → Answer Order
 rangeOrder d offset len number =
     given (rangeLast offset len) λ last.
     given (iomodeOf number) λ iomode.
     accepted (record { deed = d; iomode = iomode; first = offset; last = last })
 
+-- the body is named by its bytes
 unfoldable pub grantOrder : List ℕ → Whole → Order
 grantOrder bytes w = record {
   deed = grants (bytesFrom (w .frame .body .len) bytes (w .frame .body .start));
@@ -80,7 +82,7 @@ own Revoke = accepted (record { deed = revokes; iomode = Any; first = 0; last = 
 unfoldable pub covers : Order → Mode → ℕ → Bool
 covers o m x = actsOn (o .iomode) m && within (o .first) (o .last) x
 
--- "A grant makes its range granted. A return makes its range none. A recall turns granted into recalled and nothing else. A revoke makes
+-- "A grant makes its range granted. A return makes its range none; .. A recall turns granted into recalled and nothing else. A revoke makes
 -- every byte none in both iomodes."
 abbrev pub rightAfter : Deed → ByteRight → ByteRight
 rightAfter (grants b) r = granted b
@@ -129,22 +131,25 @@ stops22 revokes r = false
 
 -- ---- slots
 
+-- whether a slot holds the body: all its bytes are equal
 unfoldable pub inSlots : Body → List Slot → Bool
 inSlots b [] = false
 inSlots b (empty ∷ ss) = inSlots b ss
 inSlots b (holds c ∷ ss) = sameBytes b c || inSlots b ss
 
--- the number of the slot that holds the body
+-- the number of the first slot that holds the body
 unfoldable pub slotOf : Body → List Slot → ℕ
 slotOf b [] = 0
 slotOf b (empty ∷ ss) = suc (slotOf b ss)
 slotOf b (holds c ∷ ss) = pick (sameBytes b c) 0 (suc (slotOf b ss))
 
+-- "all 8 slots are named"
 unfoldable pub noneEmpty : List Slot → Bool
 noneEmpty [] = true
 noneEmpty (empty ∷ ss) = false
 noneEmpty (holds c ∷ ss) = noneEmpty ss
 
+-- the slots with the body in the lowest empty one
 unfoldable pub inLowest : Body → List Slot → List Slot
 inLowest b [] = []
 inLowest b (empty ∷ ss) = holds b ∷ ss
@@ -170,7 +175,7 @@ withSlot ss none = table.None
 withSlot ss (granted b) = table.Granted (record { 0 = slotOf b ss })
 withSlot ss (recalled b) = table.Recalled (record { 0 = slotOf b ss })
 
--- ---- every byte of the file: the bytes 0 to N
+-- ---- every byte of the file: the bytes 0 to N (demand 3 is for N = 2^64 - 1, the worked examples for short files)
 
 -- the answer n where the test holds, else what follows
 abbrev pub refuse : ℕ → Bool → ℕ → ℕ

@@ -1,4 +1,4 @@
--- Soundness of a table and a body store, whatever they are: "20: table or shelf is unsound".
+-- Soundness of a table and a body store, whatever they are. 20 is "table or shelf is unsound".
 use Prim.Native.Nat.{ℕ, zero, suc, _+_}
 use mathlib.Core.Bool.{Bool, true, false, not, _&&_}
 use mathlib.Core.List.{List, [], _∷_}
@@ -32,10 +32,12 @@ unfoldable pub apartFromNext : Segment → List Segment → Bool
 apartFromNext s [] = true
 apartFromNext s (b ∷ l) = apart s b
 
+-- each segment by itself, and against the one behind it
 unfoldable pub inOrder : List Segment → Bool
 inOrder [] = true
 inOrder (s ∷ l) = leb (s .first) (s .last) && hasSlot (s .right) && apartFromNext s l && inOrder l
 
+-- "blank places blank": 0, 0 and no right
 abbrev pub isBlank : Segment → Bool
 isBlank s = eqb (s .first) 0 && eqb (s .last) 0 && sameRight None (s .right)
 
@@ -49,7 +51,7 @@ segmentsSound g = leb (g .count) 32 && inOrder (listOf g) && allBlank (drop (g .
 
 -- ---- slots
 
--- a body that the layout body's reader accepts
+-- whether an answer is no refusal
 abbrev pub isAccepted : {A : Type 0} → Answer A → Bool
 isAccepted (accepted a) = true
 isAccepted (refused n) = false

@@ -1,4 +1,5 @@
--- Error reports: "Report count (0 to 8), reports, then a statistics count that must be 0 (else 8)."
+-- Error reports, ff_layoutreturn4 of RFC 8435, 9.3, of ff_ioerr4 (9.1.1) and device_error4 (RFC 7862): "Report count (0 to 8), reports, then a
+-- statistics count that must be 0 (else 8)."
 use Prim.Native.Nat.{ℕ}
 use mathlib.Core.List.{List}
 use mathlib.Core.Bool.{Bool, _&&_, _||_, not}
@@ -45,7 +46,7 @@ pub record Report : Type 0 where
   pub head : ReportHead
   pub errors-at : ℕ
 
--- "A report: .. errors"
+-- "A report: offset, length .., stateid, error count (1 to 16), errors of ..": each error is judged, and where the first stands is kept
 unfoldable pub reportAt : List ℕ → ℕ → Res Report
 reportAt s at =
     then (headAt s at) λ h p.

@@ -22,7 +22,7 @@ unfoldable pub recordsIn : List ℕ → List Report → List ErrorRecord
 recordsIn s [] = []
 recordsIn s (r ∷ rs) = recordsAt (r .head .errors) s (r .errors-at) ++ recordsIn s rs
 
--- ---- values as wide as their fields
+-- ---- values as wide as their fields; an error count that may be written is at most 16
 
 abbrev pub HeadFits : ReportHead → Type 0
 HeadFits h = (h .offset < 256 ^ 8) × (h .length < 256 ^ 8) × (length (h .stateid) ≡ 16)

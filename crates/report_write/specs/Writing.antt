@@ -1,4 +1,4 @@
--- Error reports, written: what is judged, in which order, and the bytes of the body.
+-- Error reports, ff_layoutreturn4 of RFC 8435, 9.3, written: what is judged, in which order, and the bytes of the body.
 use Prim.Native.Nat.{ℕ, zero, suc, _+_, _*_}
 use mathlib.Core.List.{List, [], _∷_, _++_}
 use mathlib.Core.Bool.{Bool, true, _&&_}
@@ -43,6 +43,7 @@ unfoldable pub counts : List ReportHead → ℕ
 counts [] = 0
 counts (h ∷ hs) = h .errors + counts hs
 
+-- "an error's operation is not 5, 25 or 38 .., or its status is 0" of none of them
 unfoldable pub allFit : List ErrorRecord → Bool
 allFit [] = true
 allFit (e ∷ es) = errorFits (e .status) (e .operation) && allFit es
@@ -74,6 +75,7 @@ errorsBytes (e ∷ es) = errorBytes e ++ errorsBytes es
 unfoldable pub headBytes : ReportHead → List ℕ
 headBytes h = beBytes 8 (h .offset) ++ (beBytes 8 (h .length) ++ (h .stateid ++ beBytes 4 (h .errors)))
 
+-- each report's head, then as many errors of the list as its count says
 unfoldable pub reportsBytes : List ReportHead → List ErrorRecord → List ℕ
 reportsBytes [] es = []
 reportsBytes (h ∷ hs) es = headBytes h ++ (errorsBytes (take (h .errors) es) ++ reportsBytes hs (drop (h .errors) es))

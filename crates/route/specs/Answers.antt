@@ -1,4 +1,4 @@
--- What the answers of the route's functions say.
+-- What the answers of the route's functions say; why..: the refusal in one, and of one with a value 17.
 use Prim.Native.Nat.{ℕ}
 use mathlib.Core.List.{List}
 use Rattle.base.specs.Answer.{Answer, accepted, refused}

@@ -19,7 +19,7 @@ best efficiency (suc n) = pick (ltb (efficiency (best efficiency n)) (efficiency
 unfoldable pub bestMirror : List ℕ → List ℕ → ℕ → ℕ → ℕ
 bestMirror body starts mirrors stripe = best (efficiencyOf body starts stripe) (mirrors - 1)
 
--- a set of one mirror, and of the first n
+-- "as a set of bits", bit 0 being mirror 0: a set of one mirror, and of the first n
 abbrev pub only : ℕ → ℕ
 only m = 2 ^ m
 

@@ -26,6 +26,7 @@ pub record Grant : Type 0 where
   pub slot : ℕ
   pub last : ℕ
 
+-- 17: "the first byte of an I/O request lacks the right": recalled bytes serve no I/O
 abbrev pub grantOf : Right → ℕ → Answer Grant
 grantOf None last = refused 17
 grantOf (Granted s) last = accepted (record { slot = s .0; last = last })
@@ -39,7 +40,7 @@ grantAt (s ∷ l) x = pick (within (s .first) (s .last) x) (grantOf (s .right) (
 unfoldable pub layoutIn : List ℕ → ℕ → Answer Layout
 layoutIn store slot = layoutBody (bodyIn (slotAt store slot))
 
--- bit 4 of the flags: "no reads on a read-write layout"; bit 8: "write one mirror"
+-- flag 4, the bit of that value: "no reads on a read-write layout"; flag 8: "write one mirror"
 abbrev pub noReads : ℕ → Bool
 noReads flags = eqb (flags / 4 % 2) 1
 
@@ -78,15 +79,15 @@ served false t store x = readServed (grantAt (listIn t READ) x) t store x
 
 -- ---- the answer
 
--- "A read names one mirror: the highest efficiency, lowest number on a tie; each mirror is judged by the efficiency of its first data server.
--- A write names all mirrors, as a set of bits, or with flag 8 only the mirror that this same rule picks in the write's own body."
+-- "A read names one mirror: the highest efficiency, lowest number on a tie; each mirror is judged by the efficiency of its first data server
+-- (ours). A write names all mirrors, as a set of bits, or with flag 8 only the mirror that this same rule picks in the write's own body."
 unfoldable pub mirrorsNamed : Bool → List ℕ → Layout → ℕ
 mirrorsNamed write body l =
     pick write
     (pick (oneMirror (l .summary .flags)) (only (bestMirror body (l .starts) (l .summary .mirrors) 0)) (allOf (l .summary .mirrors)))
     (only (bestMirror body (l .starts) (l .summary .mirrors) 0))
 
--- "The offset on the server is the file offset."
+-- "The answer gives iomode, slot number, stripe number, offset, piece length and mirrors." "The offset on the server is the file offset."
 unfoldable pub pieceAt : Bool → List ℕ → ℕ → ℕ → Serving → Piece
 pieceAt write store offset len v = record {
   iomode = v .iomode;

@@ -29,6 +29,7 @@ actsOn Any m = true
 
 -- ---- rights
 
+-- the same case under the same slot: "the same right and body", as no two slots hold one body
 abbrev pub sameRight : Right → Right → Bool
 sameRight None None = true
 sameRight None (Granted y) = false
@@ -81,6 +82,7 @@ anyBelow p (suc n) = p n || anyBelow p n
 
 -- ---- lists in their places
 
+-- what stands in a place without a segment
 abbrev pub blank : Segment
 blank = record { first = 0; last = 0; right = None }
 
@@ -113,7 +115,7 @@ unfoldable pub anyNames : ℕ → List Segment → Bool
 anyNames i [] = false
 anyNames i (s ∷ l) = isOfSlot i (s .right) || anyNames i l
 
--- whether a segment that meets the range passes the test
+-- whether a segment that meets the range passes the test; the table's own question, which the reference model does not ask
 unfoldable pub anyMeets : (Right → Bool) → ℕ → ℕ → List Segment → Bool
 anyMeets p lo hi [] = false
 anyMeets p lo hi (s ∷ l) = (leb (s .first) hi && leb lo (s .last) && p (s .right)) || anyMeets p lo hi l

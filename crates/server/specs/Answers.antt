@@ -1,4 +1,4 @@
--- What the answers of the data server's readers say.
+-- What the answers of the data server's readers say; why..: the refusal in one, and of one with a value the first of the refusals.
 use Rattle.base.specs.Refusals.{numberOf}
 use Rattle.base.specs.declared.refusal.Refusal.{Refusal}
 use Rattle.base.specs.declared.refusal.Refusal.the-variants.{BytesRunOut}

@@ -1,3 +1,4 @@
+-- ff_data_server4 of RFC 8435, 5.1.
 -- "A server: device id (16), efficiency (4), stateid (16: a 4-byte seqid and 12 more), filehandle count (4) and filehandles, user, group."
 use Prim.Native.Nat.{ℕ}
 use mathlib.Core.List.{List}

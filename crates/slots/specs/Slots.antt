@@ -10,6 +10,7 @@ use Rattle.reference.specs.Model.{inSlots, noneEmpty, slotOf}
 use Rattle.slots.specs.declared.home.Home.{Home}
 use Rattle.slots.specs.declared.home.Home.the-variants.{Old, New, Nowhere}
 
+-- the number of "the lowest unnamed one"
 unfoldable pub lowestEmpty : List Slot → ℕ
 lowestEmpty [] = 0
 lowestEmpty (empty ∷ ss) = 0

@@ -7,6 +7,7 @@ use Rattle.base.specs.Answer.{pick}
 use Rattle.buffers.specs.Buffers.{stored}
 use Rattle.numbers.specs.Numbers.{bytesFrom, leAt, leBytes}
 
+-- a layout body's bytes
 abbrev pub Body : Type 0
 Body = List ℕ
 
@@ -28,7 +29,7 @@ storeOf (s ∷ l) = slotBytes s ++ storeOf l
 unfoldable pub slotSet : List ℕ → ℕ → Slot → List ℕ
 slotSet store i s = pick (leb (length (slotBytes s)) 4096) (stored store (i * 4096) (slotBytes s)) store
 
--- the bytes of slot i, and what they say
+-- the bytes of slot i, and what they say: the length stands at 0, the kind at 4, the body at 6
 abbrev pub slotAt : List ℕ → ℕ → List ℕ
 slotAt store i = bytesFrom 4096 store (i * 4096)
 

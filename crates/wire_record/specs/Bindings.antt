@@ -1,4 +1,4 @@
--- Bindings in plain numbers.
+-- Bindings in plain numbers: 0 and the values, or the refusal's number and zeros.
 use Rattle.base.specs.Answer.{Answer, accepted, refused}
 use Rattle.binding.specs.declared.entry.Bound.{Bound}
 use Rattle.wire_record.specs.Layouts.{noPart, partRecord}

@@ -1,4 +1,4 @@
--- Device bodies in plain numbers.
+-- Device bodies in plain numbers: 0 and the values, or the refusal's number and zeros.
 use Prim.Native.Nat.{ℕ}
 use mathlib.Core.Bool.{Bool, true, false}
 use mathlib.Core.List.{map}

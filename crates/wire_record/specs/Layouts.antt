@@ -1,4 +1,4 @@
--- Layout bodies and layout4s in plain numbers.
+-- Layout bodies and layout4s in plain numbers: 0 and the values, or the refusal's number and zeros.
 use lib.ListN.{replicate}
 use Rattle.base.specs.Answer.{Answer, accepted, refused}
 use Rattle.base.specs.Iomodes.{numberOfIomode}

@@ -1,4 +1,4 @@
--- Error reports in plain numbers.
+-- Error reports in plain numbers: 0 and the values, or the refusal's number and zeros.
 use Prim.Native.Nat.{ℕ}
 use mathlib.Core.List.{List, []}
 use lib.ListN.{length}

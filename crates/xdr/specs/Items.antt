@@ -10,7 +10,7 @@ use Rattle.numbers.specs.Numbers.{beValue, bytesFrom}
 use Rattle.xdr.specs.Res.{Res, ok, no, then}
 use Rattle.xdr.specs.declared.Part.{Part}
 
--- a number of k bytes
+-- a number of k bytes: "All wire numbers are big-endian: 4 or 8 bytes."
 unfoldable pub numAt : ℕ → List ℕ → ℕ → Res ℕ
 numAt k s at = pick (leb (at + k) (length s)) (ok (beValue (bytesFrom k s at)) (at + k)) (no 1)
 
@@ -18,7 +18,7 @@ numAt k s at = pick (leb (at + k) (length s)) (ok (beValue (bytesFrom k s at)) (
 unfoldable pub boolAt : List ℕ → ℕ → Res Bool
 boolAt s at = then (numAt 4 s at) λ n p. pick (leb n 1) (ok (eqb n 1) p) (no 7)
 
--- a count or a length from lo to hi
+-- a count or a length from lo to hi; 8 outside, whatever follows: "an item of its own"
 unfoldable pub countAt : ℕ → ℕ → List ℕ → ℕ → Res ℕ
 countAt lo hi s at = then (numAt 4 s at) λ n p. pick (leb lo n && leb n hi) (ok n p) (no 8)
 
@@ -26,6 +26,7 @@ countAt lo hi s at = then (numAt 4 s at) λ n p. pick (leb lo n && leb n hi) (ok
 abbrev pub padding : ℕ → ℕ
 padding n = (4 - n % 4) % 4
 
+-- whether each byte is 0
 unfoldable pub allZero : List ℕ → Bool
 allZero [] = true
 allZero (b ∷ bs) = eqb b 0 && allZero bs

@@ -1,4 +1,4 @@
--- Items read one after the other: a value with the place after it, or the number of the first fault met.
+-- Items read one after the other: a value with the place after it (ok), or the number of the first fault met (no).
 use Prim.Native.Nat.{ℕ, zero, suc}
 use mathlib.Core.List.{List, [], _∷_}
 use lib.ListN.{length}
@@ -24,7 +24,7 @@ unfoldable pub whole : {A : Type 0} → List ℕ → Res A → Answer A
 whole s (ok a at) = pick (eqb at (length s)) (accepted a) (refused 2)
 whole s (no n) = refused n
 
--- an answer about the bytes before a place, as an item
+-- a judgement of what was just read, as an item of no bytes: its number refuses, its value goes on from the same place
 unfoldable pub inside : {A : Type 0} → Answer A → ℕ → Res A
 inside (accepted a) at = ok a at
 inside (refused n) at = no n
