@@ -1,7 +1,7 @@
-// Questions about a table: whether a segment names a slot, and whether one that meets a range has a right of a kind.
+// Questions about a table: which slots segments name, and whether a segment that meets a range has a right of a kind.
 mod range;
 mod slots;
 
 pub use range::Condition;
 pub use range::meets;
-pub use slots::names;
+pub use slots::named_slots;

@@ -1,44 +1,61 @@
-// Whether a segment names a slot.
+// Which slots the segments of a table name. All eight are found in one walk: each question by itself would copy the table.
 use base::SlotNumber;
 use segments::Right;
 use segments::Segments;
 use segments::Table;
 ghost use mathlib.Core.Path.{_≡_};
-ghost use Rattle.segments.specs.Segments.{anyNames, isNamed, isOfSlot, listOf};
+ghost use mathlib.Core.Bool.{false, _||_};
+ghost use Prim.Native.Nat.{ℕ, _<_};
+ghost use lib.Dec.{eqb};
+ghost use lib.ListN.{getD, length};
+ghost use Rattle.segments.specs.Segments.{anyNames, isOfSlot, listOf};
+ghost use Rattle.lookup.specs.Lookup.{namedSlots};
 
-fn of_slot(r: Right, i: SlotNumber) -> bool
-    ensures { λ b. ⌜ b ≡ isOfSlot (i .0) r ⌝ }
+fn mark_slot(named: &mut [bool; 8], s: SlotNumber)
+    requires { ⌜ length (now named) ≡ 8 ⌝ }
+    ensures { λ r. ⌜ (length (now (named .exit)) ≡ 8)
+        × ((i : ℕ) → i < 8 → getD (now (named .exit)) i false ≡ (eqb i (s .0) || getD (now (named .entry)) i false)) ⌝ }
 {
-    match r {
-        Right::None => false,
-        Right::Granted(s) => i.0 == s.0,
-        Right::Recalled(s) => i.0 == s.0,
+    if s.0 < 8 {
+        let i = s.0 as usize;
+        named[i] = true;
     }
 }
 
-fn any_names(g: Segments, i: SlotNumber) -> bool
-    ensures { λ r. ⌜ r ≡ anyNames (i .0) (listOf g) ⌝ }
+fn mark(named: &mut [bool; 8], right: Right)
+    requires { ⌜ length (now named) ≡ 8 ⌝ }
+    ensures { λ r. ⌜ (length (now (named .exit)) ≡ 8)
+        × ((i : ℕ) → i < 8 → getD (now (named .exit)) i false ≡ (isOfSlot i right || getD (now (named .entry)) i false)) ⌝ }
+{
+    match right {
+        Right::None => {}
+        Right::Granted(s) => mark_slot(named, s),
+        Right::Recalled(s) => mark_slot(named, s),
+    }
+}
+
+fn mark_all(named: &mut [bool; 8], g: Segments)
+    requires { ⌜ length (now named) ≡ 8 ⌝ }
+    ensures { λ r. ⌜ (length (now (named .exit)) ≡ 8)
+        × ((i : ℕ) → i < 8 → getD (now (named .exit)) i false ≡ (anyNames i (listOf g) || getD (now (named .entry)) i false)) ⌝ }
 {
     let n = segments::used_places(g.count);
     let mut k: usize = 0;
     while k < n {
         let s = g.items[k];
         let right = s.right;
-        if of_slot(right, i) {
-            return true;
-        }
+        mark(named, right);
         k += 1;
     }
-    false
 }
 
-pub fn names(t: Table, i: SlotNumber) -> bool
-    ensures { λ r. ⌜ r ≡ isNamed t (i .0) ⌝ }
+pub fn named_slots(t: Table) -> [bool; 8]
+    ensures { λ r. ⌜ r ≡ namedSlots t ⌝ }
 {
+    let mut named = [false; 8];
     let read = t.read;
-    if any_names(read, i) {
-        return true;
-    }
+    mark_all(&mut named, read);
     let rw = t.rw;
-    any_names(rw, i)
+    mark_all(&mut named, rw);
+    named
 }

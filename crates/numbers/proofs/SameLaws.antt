@@ -1,13 +1,15 @@
--- Laws of equal runs of bytes: the test says that two lists are equal, and goes by lengths, then byte by byte.
-use Prim.Native.Nat.{ℕ, suc, _<_}
-use mathlib.Core.Path.{_≡_, refl, sym, ap, _∙_}
+-- Laws of equal runs of bytes: the test says that two lists are equal, and goes by lengths, then block by block.
+use Prim.Native.Nat.{ℕ, _+_, _≤_, _<_}
+use mathlib.Core.Path.{_≡_, refl, sym, ap, ap₂, _∙_}
 use mathlib.Core.Bool.{Bool, true, false, _&&_, false≢true}
-use mathlib.Core.List.{List, [], _∷_}
+use mathlib.Core.List.{List, [], _∷_, _++_}
 use borrow.Author.Tests.{eqb-true, eq-eqb}
 use lib.Dec.{eqb}
-use lib.ListN.{length, drop, getD}
-use lib.Seq.{drop-cons}
-use Rattle.numbers.specs.Numbers.{sameBytes}
+use lib.ListN.{length, take, drop, getD, length-drop, length-take, take-append-drop}
+use lib.Seq.{drop-drop, getD-drop, take-suc}
+use native.Mathlib.Numerals.{add-one}
+use native.Mathlib.Omega.{arith}
+use Rattle.numbers.specs.Numbers.{bytesFrom, sameBytes}
 
 pub same-true : (xs ys : List ℕ) → sameBytes xs ys ≡ true → xs ≡ ys
 unfolding sameBytes
@@ -25,10 +27,54 @@ same-lengths xs ys h = go (sameBytes xs ys) refl where
   go true e = absurd (h (ap length (same-true xs ys e)))
   go false e = e
 
-pub same-step : (xs ys : List ℕ) (i : ℕ) → i < length xs → i < length ys
-    → sameBytes (drop i xs) (drop i ys) ≡ (eqb (getD xs i 0) (getD ys i 0) && sameBytes (drop (suc i) xs) (drop (suc i) ys))
+same-append : (xs ys xs2 ys2 : List ℕ) → length xs ≡ length ys → sameBytes (xs ++ xs2) (ys ++ ys2) ≡ (sameBytes xs ys && sameBytes xs2 ys2)
 unfolding sameBytes
-same-step xs ys i h k = rw (drop-cons xs i 0 h, drop-cons ys i 0 k)
+same-append [] [] xs2 ys2 h = refl
+same-append [] (y ∷ ys) xs2 ys2 h = absurd (omega (arith, h))
+same-append (x ∷ xs) [] xs2 ys2 h = absurd (omega (arith, h))
+same-append (x ∷ xs) (y ∷ ys) xs2 ys2 h = go (eqb x y) (same-append xs ys xs2 ys2 (omega (arith, h))) where
+  go : (t : Bool) → sameBytes (xs ++ xs2) (ys ++ ys2) ≡ (sameBytes xs ys && sameBytes xs2 ys2)
+      → (t && sameBytes (xs ++ xs2) (ys ++ ys2)) ≡ ((t && sameBytes xs ys) && sameBytes xs2 ys2)
+  go true e = e
+  go false e = refl
+
+same-one : (x y : ℕ) → sameBytes (x ∷ []) (y ∷ []) ≡ eqb x y
+unfolding sameBytes
+same-one x y = go (eqb x y) where
+  go : (t : Bool) → (t && true) ≡ t
+  go true = refl
+  go false = refl
+
+same-long : (n at : ℕ) (s t : List ℕ) → length s ≡ length t → length (bytesFrom n s at) ≡ length (bytesFrom n t at)
+same-long n at s t h = simp (length-take, length-drop, h) refl
+
+pub same-none : sameBytes [] [] ≡ true
+unfolding sameBytes
+same-none = refl
+
+pub one-more : (s t : List ℕ) (at i : ℕ) → at + i < length s → at + i < length t
+    → sameBytes (bytesFrom (i + 1) s at) (bytesFrom (i + 1) t at)
+    ≡ (sameBytes (bytesFrom i s at) (bytesFrom i t at) && eqb (getD s (at + i) 0) (getD t (at + i) 0))
+one-more s t at i h k =
+    let hs : i < length (drop at s) = simp length-drop (omega arith) in
+    let ht : i < length (drop at t) = simp length-drop (omega arith) in
+    let e : length (take i (drop at s)) ≡ length (take i (drop at t)) = simp (length-take, length-drop) (omega arith) in
+    rw (
+      add-one i,
+      take-suc (drop at s) i 0 hs,
+      take-suc (drop at t) i 0 ht,
+      same-append (take i (drop at s)) (take i (drop at t)) (getD (drop at s) i 0 ∷ []) (getD (drop at t) i 0 ∷ []) e,
+      same-one (getD (drop at s) i 0) (getD (drop at t) i 0),
+      getD-drop,
+      getD-drop,
+    )
+
+pub block-first : (n at : ℕ) (s t : List ℕ) → length s ≡ length t
+    → sameBytes (drop at s) (drop at t) ≡ (sameBytes (bytesFrom n s at) (bytesFrom n t at) && sameBytes (drop (at + n) s) (drop (at + n) t))
+block-first n at s t h =
+    sym (ap₂ sameBytes (take-append-drop n (drop at s)) (take-append-drop n (drop at t)))
+    ∙ same-append (take n (drop at s)) (take n (drop at t)) (drop n (drop at s)) (drop n (drop at t)) (same-long n at s t h)
+    ∙ ap₂ (λ (x y : List ℕ). sameBytes (take n (drop at s)) (take n (drop at t)) && sameBytes x y) (drop-drop n at s) (drop-drop n at t)
 
 pub same-refl : (b : List ℕ) → sameBytes b b ≡ true
 unfolding sameBytes

@@ -40,9 +40,9 @@ module _ (t : Table) (bytes : List ℕ) (i : ℕ) (n : NamedTo t bytes i) where
       let b : lowestEmpty (slotsFrom t bytes (8 - i) i) ≡ suc (lowestEmpty (slotsFrom t bytes (8 - (i + 1)) (i + 1))) = rw (next t bytes i h, e) refl in
       record { none = n .none ∙ a; lowest = omega (arith, n .lowest, b) }
 
-  pub named-here : i < 8 → isNamed t i ≡ false → New (record { 0 = i }) ≡ emptyHome (slotsIn t bytes)
+  pub not-named : i < 8 → isNamed t i ≡ false → New (record { 0 = i }) ≡ emptyHome (slotsIn t bytes)
   unfolding noneEmpty lowestEmpty pick emptyHome
-  named-here h e =
+  not-named h e =
       let a : noneEmpty (slotsFrom t bytes (8 - i) i) ≡ false = rw (next t bytes i h, e) refl in
       let b : lowestEmpty (slotsFrom t bytes (8 - i) i) ≡ 0 = rw (next t bytes i h, e) refl in
       let c : lowestEmpty (slotsIn t bytes) ≡ i = omega (arith, n .lowest, b) in

@@ -4,18 +4,17 @@ use segments::Table;
 ghost use mathlib.Core.Path.{_≡_};
 ghost use mathlib.Core.Bool.{_&&_, not};
 ghost use Rattle.base.specs.Answer.{pick};
-ghost use Rattle.segments.specs.Segments.{isNamed};
 ghost use Rattle.store.specs.Store.{empty, slotSet};
 ghost use Rattle.slots.specs.Slots.{clearedFrom};
 
-fn clear_if_unnamed(before: Table, after: Table, i: SlotNumber, store: &mut [u8])
-    ensures { λ r. ⌜ now (store .exit)
-        ≡ pick (isNamed before (i .0) && not (isNamed after (i .0))) (slotSet (now (store .entry)) (i .0) empty) (now (store .entry)) ⌝ }
+// A slot that was named and is no more.
+fn clear_if_unnamed(was: bool, is: bool, i: SlotNumber, store: &mut [u8])
+    ensures { λ r. ⌜ now (store .exit) ≡ pick (was && not is) (slotSet (now (store .entry)) (i .0) empty) (now (store .entry)) ⌝ }
 {
-    if !lookup::names(before, i) {
+    if !was {
         return;
     }
-    if lookup::names(after, i) {
+    if is {
         return;
     }
     store::clear_slot(store, i);
@@ -25,9 +24,12 @@ fn clear_if_unnamed(before: Table, after: Table, i: SlotNumber, store: &mut [u8]
 pub fn clear_unnamed(before: Table, after: Table, store: &mut [u8])
     ensures { λ r. ⌜ now (store .exit) ≡ clearedFrom before after 8 0 (now (store .entry)) ⌝ }
 {
+    let was = lookup::named_slots(before);
+    let is = lookup::named_slots(after);
     let mut i: u32 = 0;
     while i < 8 {
-        clear_if_unnamed(before, after, SlotNumber(i), store);
+        let k = i as usize;
+        clear_if_unnamed(was[k], is[k], SlotNumber(i), store);
         i += 1;
     }
 }

@@ -2,12 +2,9 @@
 use base::SlotNumber;
 use segments::Table;
 ghost use mathlib.Core.Path.{_≡_};
-ghost use mathlib.Core.Bool.{_&&_};
 ghost use mathlib.Core.List.{List};
 ghost use Prim.Native.Nat.{ℕ};
-ghost use Rattle.numbers.specs.Numbers.{sameBytes};
-ghost use Rattle.segments.specs.Segments.{isNamed};
-ghost use Rattle.store.specs.Store.{bodyIn, slotAt};
+ghost use Rattle.lookup.specs.Lookup.{namedSlots};
 ghost use Rattle.reference.specs.Sound.{slotsIn};
 ghost use Rattle.slots.specs.Slots.{emptyHome, homeOf};
 
@@ -18,24 +15,15 @@ pub enum Home {
     Nowhere,
 }
 
-// Whether a slot is named and holds the body.
-fn holds(t: Table, store: &[u8], i: SlotNumber, body: &[u8]) -> bool
-    ensures { λ r. ⌜ r ≡ (isNamed t (i .0) && sameBytes (now (body .entry)) (bodyIn (slotAt (now (store .entry)) (i .0)))) ⌝ }
-{
-    if !lookup::names(t, i) {
-        return false;
-    }
-    numbers::same(body, store::slot_body(store::slot_bytes(store, i)))
-}
-
-fn unnamed(t: Table) -> Home
-    ensures { λ r. ⌜ ((bytes : List ℕ) → r ≡ emptyHome (slotsIn t bytes)) ⌝ }
+// `named` says of each slot whether a segment names it.
+fn unnamed(named: [bool; 8]) -> Home
+    ensures { λ r. ⌜ ((t : Table) (bytes : List ℕ) → named ≡ namedSlots t → r ≡ emptyHome (slotsIn t bytes)) ⌝ }
 {
     let mut i: u32 = 0;
     while i < 8 {
-        let s = SlotNumber(i);
-        if !lookup::names(t, s) {
-            return Home::New(s);
+        let k = i as usize;
+        if !named[k] {
+            return Home::New(SlotNumber(i));
         }
         i += 1;
     }
@@ -45,13 +33,15 @@ fn unnamed(t: Table) -> Home
 pub fn find_home(t: Table, store: &[u8], body: &[u8]) -> Home
     ensures { λ r. ⌜ r ≡ homeOf (now (body .entry)) (slotsIn t (now (store .entry))) ⌝ }
 {
+    let named = lookup::named_slots(t);
     let mut i: u32 = 0;
     while i < 8 {
+        let k = i as usize;
         let s = SlotNumber(i);
-        if holds(t, store, s, body) {
+        if store::holds_body(named[k], store, s, body) {
             return Home::Old(s);
         }
         i += 1;
     }
-    unnamed(t)
+    unnamed(named)
 }

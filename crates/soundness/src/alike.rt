@@ -1,34 +1,24 @@
-// Whether no two named slots hold the same body.
+// Whether no two named slots hold the same body. `named` says of each slot whether a segment names it.
 use base::SlotNumber;
-use segments::Table;
 ghost use mathlib.Core.Path.{_≡_};
 ghost use mathlib.Core.Bool.{_&&_};
 ghost use Prim.Native.Nat.{_+_, _-_, _<_};
-ghost use Rattle.numbers.specs.Numbers.{sameBytes};
+ghost use Rattle.segments.specs.declared.Table.{Table};
 ghost use Rattle.segments.specs.Segments.{isNamed};
+ghost use Rattle.lookup.specs.Lookup.{namedSlots};
 ghost use Rattle.store.specs.Store.{bodyIn, slotAt};
 ghost use Rattle.reference.specs.Model.{inSlots};
 ghost use Rattle.reference.specs.Sound.{noTwoAlike, slotsFrom, slotsIn};
 
-// The bodies are compared first: their lengths mostly differ, and the table is then not asked.
-fn holds_it(t: Table, store: &[u8], i: SlotNumber, body: &[u8]) -> bool
-    ensures { λ r. ⌜ r ≡ (isNamed t (i .0) && sameBytes (now (body .entry)) (bodyIn (slotAt (now (store .entry)) (i .0)))) ⌝ }
-{
-    let slot = store::slot_bytes(store, i);
-    let other = store::slot_body(slot);
-    if !numbers::same(body, other) {
-        return false;
-    }
-    lookup::names(t, i)
-}
-
 // Whether a slot from this one on holds the body.
-fn is_held_from(t: Table, store: &[u8], from: u32, body: &[u8]) -> bool
-    ensures { λ r. ⌜ r ≡ inSlots (now (body .entry)) (slotsFrom t (now (store .entry)) (8 - from) from) ⌝ }
+fn is_held_from(named: [bool; 8], store: &[u8], from: u32, body: &[u8]) -> bool
+    ensures { λ r. ⌜ ((t : Table) → named ≡ namedSlots t
+        → r ≡ inSlots (now (body .entry)) (slotsFrom t (now (store .entry)) (8 - from) from)) ⌝ }
 {
     let mut j = from;
     while j < 8 {
-        if holds_it(t, store, SlotNumber(j), body) {
+        let k = j as usize;
+        if store::holds_body(named[k], store, SlotNumber(j), body) {
             return true;
         }
         j += 1;
@@ -37,24 +27,26 @@ fn is_held_from(t: Table, store: &[u8], from: u32, body: &[u8]) -> bool
 }
 
 // Whether a later slot holds the body of this one.
-fn is_held_again(t: Table, store: &[u8], i: u32) -> bool
+fn is_held_again(named: [bool; 8], store: &[u8], i: u32) -> bool
     requires { ⌜ i < 8 ⌝ }
-    ensures { λ r. ⌜ r ≡ (isNamed t i && inSlots (bodyIn (slotAt (now (store .entry)) i)) (slotsFrom t (now (store .entry)) (8 - (i + 1)) (i + 1))) ⌝ }
+    ensures { λ r. ⌜ ((t : Table) → named ≡ namedSlots t
+        → r ≡ (isNamed t i && inSlots (bodyIn (slotAt (now (store .entry)) i)) (slotsFrom t (now (store .entry)) (8 - (i + 1)) (i + 1)))) ⌝ }
 {
-    if !lookup::names(t, SlotNumber(i)) {
+    let k = i as usize;
+    if !named[k] {
         return false;
     }
     let slot = store::slot_bytes(store, SlotNumber(i));
     let body = store::slot_body(slot);
-    is_held_from(t, store, i + 1, body)
+    is_held_from(named, store, i + 1, body)
 }
 
-pub fn no_two_alike(t: Table, store: &[u8]) -> bool
-    ensures { λ r. ⌜ r ≡ noTwoAlike (slotsIn t (now (store .entry))) ⌝ }
+pub fn no_two_alike(named: [bool; 8], store: &[u8]) -> bool
+    ensures { λ r. ⌜ ((t : Table) → named ≡ namedSlots t → r ≡ noTwoAlike (slotsIn t (now (store .entry)))) ⌝ }
 {
     let mut i: u32 = 0;
     while i < 8 {
-        if is_held_again(t, store, i) {
+        if is_held_again(named, store, i) {
             return false;
         }
         i += 1;

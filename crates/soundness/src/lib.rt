@@ -22,8 +22,9 @@ pub fn sound(t: Table, store: &[u8]) -> bool
     if !lists::segments_sound(rw) {
         return false;
     }
-    if !slots::slots_sound(t, store) {
+    let named = lookup::named_slots(t);
+    if !slots::slots_sound(named, store) {
         return false;
     }
-    alike::no_two_alike(t, store)
+    alike::no_two_alike(named, store)
 }

@@ -46,34 +46,24 @@ fn are_apart(a: Segment, b: Segment) -> bool
     !segments::same_right(x, y)
 }
 
-// The segment in place k, and its neighbour behind it.
-fn is_in_order(g: Segments, k: usize) -> bool
-    requires { ⌜ (k < g .count) × (g .count ≤ 32) ⌝ }
-    ensures { λ r. ⌜ r ≡ (leb (getD (g .items) k blank .first) (getD (g .items) k blank .last) && hasSlot (getD (g .items) k blank .right)
-        && apartFromNext (getD (g .items) k blank) (drop (k + 1) (listOf g))) ⌝ }
-{
-    let s = g.items[k];
-    if !is_fit(s) {
-        return false;
-    }
-    let n = k + 1;
-    if g.count <= n {
-        return true;
-    }
-    let b = g.items[n];
-    are_apart(s, b)
-}
-
+// Each segment by itself, and with its neighbour behind it.
 fn in_order(g: Segments) -> bool
     requires { ⌜ g .count ≤ 32 ⌝ }
     ensures { λ r. ⌜ r ≡ inOrder (listOf g) ⌝ }
 {
     let mut k: usize = 0;
     while k < g.count {
-        if !is_in_order(g, k) {
+        let s = g.items[k];
+        if !is_fit(s) {
             return false;
         }
         k += 1;
+        if k < g.count {
+            let b = g.items[k];
+            if !are_apart(s, b) {
+                return false;
+            }
+        }
     }
     true
 }

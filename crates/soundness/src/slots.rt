@@ -1,9 +1,10 @@
 // Whether the slots are sound: a named one holds an accepted body, laid out as said; any other is zero.
 use base::SlotNumber;
 use layout::LayoutAnswer;
-use segments::Table;
 ghost use mathlib.Core.Path.{_≡_};
 ghost use Rattle.layout.specs.Layouts.{layoutBody};
+ghost use Rattle.segments.specs.declared.Table.{Table};
+ghost use Rattle.lookup.specs.Lookup.{namedSlots};
 ghost use Rattle.reference.specs.Sound.{isAccepted, slotSound, slotsSound};
 
 fn is_accepted(body: &[u8]) -> bool
@@ -37,14 +38,15 @@ fn slot_sound(named: bool, slot: &[u8]) -> bool
     store::all_zero(slot, 6 + n)
 }
 
-pub fn slots_sound(t: Table, store: &[u8]) -> bool
-    ensures { λ r. ⌜ r ≡ slotsSound t (now (store .entry)) 8 0 ⌝ }
+// `named` says of each slot whether a segment names it.
+pub fn slots_sound(named: [bool; 8], store: &[u8]) -> bool
+    ensures { λ r. ⌜ ((t : Table) → named ≡ namedSlots t → r ≡ slotsSound t (now (store .entry)) 8 0) ⌝ }
 {
     let mut i: u32 = 0;
     while i < 8 {
-        let named = lookup::names(t, SlotNumber(i));
+        let k = i as usize;
         let slot = store::slot_bytes(store, SlotNumber(i));
-        if !slot_sound(named, slot) {
+        if !slot_sound(named[k], slot) {
             return false;
         }
         i += 1;

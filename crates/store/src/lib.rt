@@ -9,6 +9,7 @@ mod zero;
 
 pub use lay::clear_slot;
 pub use lay::lay_body;
+pub use slot::holds_body;
 pub use slot::slot_body;
 pub use slot::slot_bytes;
 pub use slot::slot_kind;

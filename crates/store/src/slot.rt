@@ -2,7 +2,8 @@
 use crate::start;
 use base::SlotNumber;
 ghost use mathlib.Core.Path.{_≡_};
-ghost use Rattle.numbers.specs.Numbers.{bytesFrom};
+ghost use mathlib.Core.Bool.{_&&_};
+ghost use Rattle.numbers.specs.Numbers.{bytesFrom, sameBytes};
 ghost use Rattle.store.specs.Store.{bodyIn, kindIn, lengthIn, slotAt};
 
 // The n bytes from a place; fewer where the bytes run out.
@@ -43,4 +44,14 @@ pub fn slot_body(slot: &[u8]) -> &[u8]
 {
     let n = slot_length(slot) as usize;
     part(slot, 6, n)
+}
+
+// Whether a slot holds a body: one that no segment names holds none.
+pub fn holds_body(named: bool, store: &[u8], i: SlotNumber, body: &[u8]) -> bool
+    ensures { λ r. ⌜ r ≡ (named && sameBytes (now (body .entry)) (bodyIn (slotAt (now (store .entry)) (i .0)))) ⌝ }
+{
+    if !named {
+        return false;
+    }
+    numbers::same(body, slot_body(slot_bytes(store, i)))
 }

@@ -1,15 +1,16 @@
 -- `soundness::alike::is_held_again` meets its contract: the slot is not named, or the later slots decide.
+use Rattle.lookup.proofs.NamedLaws.{named-here}
 use borrow.Author.Needs.{needs}
 use borrow.Author.Tests.{not-false, not-true}
-use mathlib.Core.Path.{sym, _∙_}
+use mathlib.Core.Path.{_∙_}
 use Rattle.soundness.proofs.alike.is_held_again.Statement.{statement}
 use Rattle.soundness.proofs.alike.is_held_again.Tie as tie
 
-names-requires : tie.Need-names-requires
-names-requires c κs = search needs
+array-read-if1 : tie.Need-array-read-if1
+array-read-if1 c = search needs
 
 returns : tie.Need-returns
-returns c = rw (sym (c .before .names .ensures) ∙ not-true _ (c .if1 .taken))
+returns c = λ t e. rw (named-here t _ (c .before .before .args .i) e (c .before .before .pre) ∙ not-true _ (c .if1 .taken))
 
 slot-bytes-requires : tie.Need-slot-bytes-requires
 slot-bytes-requires c κs = search needs
@@ -24,13 +25,13 @@ is-held-from-requires : tie.Need-is-held-from-requires
 is-held-from-requires c κs = search needs
 
 returns-2 : tie.Need-returns-2
-returns-2 c = rw (sym (c .before .before .before .before .names .ensures) ∙ not-false _ (c .before .before .before .if1 .left), ← (c .before .before .slot-bytes .ensures), ← (c .before .slot-body .ensures)) (c .is-held-from .ensures)
+returns-2 c = λ t e. rw (named-here t _ (c .before .before .before .before .before .args .i) e (c .before .before .before .before .before .pre) ∙ not-false _ (c .before .before .before .if1 .left), ← (c .before .before .slot-bytes .ensures), ← (c .before .slot-body .ensures)) (c .is-held-from .ensures t e)
 
 pub is-held-again-spec : {M : Type 1} → statement M
 is-held-again-spec =
     tie.close
     (tie.spec
-    names-requires
+    array-read-if1
     returns
     slot-bytes-requires
     slot-body-requires

@@ -1,8 +1,11 @@
 -- `soundness::alike::is_held_from` meets its contract. The loop's invariant: no slot passed holds the body, so what is left decides. The measure is
 -- how many slots are left.
 use Prim.Native.Nat.{_-_}
+use Rattle.lookup.proofs.NamedLaws.{named-here}
+use Rattle.lookup.specs.Lookup.{namedSlots}
 use Rattle.reference.specs.Model.{inSlots}
 use Rattle.reference.specs.Sound.{slotsFrom}
+use Rattle.segments.specs.declared.Table.{Table}
 use Rattle.soundness.proofs.SlotLaws.{held-next, held-none}
 use borrow.Author.Needs.{needs}
 use denote.Ref.{now}
@@ -12,22 +15,29 @@ use Rattle.soundness.proofs.alike.is_held_from.Statement.{statement}
 use Rattle.soundness.proofs.alike.is_held_from.Tie as tie
 
 abbrev Inv-loop : tie.InvT-loop
-Inv-loop t store from body j₀ j = inSlots body (slotsFrom t store (8 - from) from) ≡ inSlots body (slotsFrom t store (8 - j) j)
+Inv-loop store from body named j₀ j =
+    (t : Table) → named ≡ namedSlots t → inSlots body (slotsFrom t store (8 - from) from) ≡ inSlots body (slotsFrom t store (8 - j) j)
 
 abbrev μ-loop : tie.MeasureT-loop
-μ-loop t store from body j₀ j = 8 - j
+μ-loop store from body named j₀ j = 8 - j
 
 loop-holds : tie.Need-loop-holds Inv-loop μ-loop
-loop-holds c = refl
+loop-holds c = λ t e. refl
 
-holds-it-requires : tie.Need-holds-it-requires Inv-loop μ-loop
-holds-it-requires c κs = search needs
+cast-k : tie.Need-cast-k Inv-loop μ-loop
+cast-k c = search needs
+
+array-read-holds-body : tie.Need-array-read-holds-body Inv-loop μ-loop
+array-read-holds-body c = search needs
+
+holds-body-requires : tie.Need-holds-body-requires Inv-loop μ-loop
+holds-body-requires c κs = search needs
 
 returns : tie.Need-returns Inv-loop μ-loop
 returns c =
     let l = c .before .before .before .loop in
     let a = c .before .before .before .before .before .before .args in
-    rw (l .inv, held-next (a .t) (now (a .store)) (now (a .body)) 8 (l .j) (omega arith), sym (c .before .holds-it .ensures) ∙ c .if1 .taken)
+    λ t e. rw (l .inv t e, held-next t (now (a .store)) (now (a .body)) 8 (l .j) (omega arith), named-here t _ (l .j) e (omega arith), sym (c .before .holds-body .ensures) ∙ c .if1 .taken)
 
 add-j : tie.Need-add-j Inv-loop μ-loop
 add-j c = search needs
@@ -39,13 +49,13 @@ loop-again : tie.Need-loop-again Inv-loop μ-loop
 loop-again c =
     let l = c .before .before .before .loop in
     let a = c .before .before .before .before .before .before .args in
-    rw (l .inv, held-next (a .t) (now (a .store)) (now (a .body)) 8 (l .j) (omega arith), sym (c .before .holds-it .ensures) ∙ c .if1 .left)
+    λ t e. rw (l .inv t e, held-next t (now (a .store)) (now (a .body)) 8 (l .j) (omega arith), named-here t _ (l .j) e (omega arith), sym (c .before .holds-body .ensures) ∙ c .if1 .left)
 
 returns-2 : tie.Need-returns-2 Inv-loop μ-loop
 returns-2 c =
     let l = c .before .loop in
     let a = c .before .before .before .before .args in
-    sym (l .inv ∙ held-none (a .t) (now (a .store)) (now (a .body)) 8 (l .j) (omega arith))
+    λ t e. sym (l .inv t e ∙ held-none t (now (a .store)) (now (a .body)) 8 (l .j) (omega arith))
 
 pub is-held-from-spec : {M : Type 1} → statement M
 is-held-from-spec =
@@ -54,7 +64,9 @@ is-held-from-spec =
     Inv-loop
     μ-loop
     loop-holds
-    holds-it-requires
+    cast-k
+    array-read-holds-body
+    holds-body-requires
     returns
     add-j
     loop-less

@@ -1,7 +1,9 @@
 -- `soundness::alike::no_two_alike` meets its contract. The loop's invariant: no body of a slot passed is in a later one, so what is left decides.
 -- The measure is how many slots are left.
 use Prim.Native.Nat.{_-_, _≤_}
+use Rattle.lookup.specs.Lookup.{namedSlots}
 use Rattle.reference.specs.Sound.{noTwoAlike, slotsFrom, slotsIn}
+use Rattle.segments.specs.declared.Table.{Table}
 use Rattle.soundness.proofs.SlotLaws.{alike-next, alike-none}
 use borrow.Author.Needs.{needs}
 use denote.Ref.{now}
@@ -11,13 +13,14 @@ use Rattle.soundness.proofs.alike.no_two_alike.Statement.{statement}
 use Rattle.soundness.proofs.alike.no_two_alike.Tie as tie
 
 abbrev Inv-loop : tie.InvT-loop
-Inv-loop t store i₀ i = (i ≤ 8) × (noTwoAlike (slotsFrom t store 8 0) ≡ noTwoAlike (slotsFrom t store (8 - i) i))
+Inv-loop named store i₀ i =
+    (i ≤ 8) × ((t : Table) → named ≡ namedSlots t → noTwoAlike (slotsFrom t store 8 0) ≡ noTwoAlike (slotsFrom t store (8 - i) i))
 
 abbrev μ-loop : tie.MeasureT-loop
-μ-loop t store i₀ i = 8 - i
+μ-loop named store i₀ i = 8 - i
 
 loop-holds : tie.Need-loop-holds Inv-loop μ-loop
-loop-holds c = (omega arith, refl)
+loop-holds c = (omega arith, λ t e. refl)
 
 is-held-again-requires : tie.Need-is-held-again-requires Inv-loop μ-loop
 is-held-again-requires c κs = search needs
@@ -26,7 +29,7 @@ returns : tie.Need-returns Inv-loop μ-loop
 unfolding slotsIn
 returns c =
     let l = c .before .before .before .loop in
-    rw (l .inv .1, alike-next (c .before .before .before .before .before .args .t) (now (c .before .before .before .before .before .args .store)) 8 (l .i) (omega arith), sym (c .before .is-held-again .ensures) ∙ c .if1 .taken)
+    λ t e. rw (l .inv .1 t e, alike-next t (now (c .before .before .before .before .before .args .store)) 8 (l .i) (omega arith), sym (c .before .is-held-again .ensures t e) ∙ c .if1 .taken)
 
 add-i : tie.Need-add-i Inv-loop μ-loop
 add-i c = search needs
@@ -37,13 +40,13 @@ loop-less c = search needs
 loop-again : tie.Need-loop-again Inv-loop μ-loop
 loop-again c =
     let l = c .before .before .before .loop in
-    (omega arith, rw (l .inv .1, alike-next (c .before .before .before .before .before .args .t) (now (c .before .before .before .before .before .args .store)) 8 (l .i) (omega arith), sym (c .before .is-held-again .ensures) ∙ c .if1 .left))
+    (omega arith, λ t e. rw (l .inv .1 t e, alike-next t (now (c .before .before .before .before .before .args .store)) 8 (l .i) (omega arith), sym (c .before .is-held-again .ensures t e) ∙ c .if1 .left))
 
 returns-2 : tie.Need-returns-2 Inv-loop μ-loop
 unfolding slotsIn
 returns-2 c =
     let l = c .before .loop in
-    sym (l .inv .1 ∙ alike-none (c .before .before .before .args .t) (now (c .before .before .before .args .store)) 8 (l .i) (omega arith))
+    λ t e. sym (l .inv .1 t e ∙ alike-none t (now (c .before .before .before .args .store)) 8 (l .i) (omega arith))
 
 pub no-two-alike-spec : {M : Type 1} → statement M
 no-two-alike-spec =

@@ -1,7 +1,10 @@
 -- `soundness::slots::slots_sound` meets its contract. The loop's invariant: the slots passed are sound, so what is left decides. The measure is how
 -- many are left.
 use Prim.Native.Nat.{_-_, _≤_}
+use Rattle.lookup.proofs.NamedLaws.{named-here}
+use Rattle.lookup.specs.Lookup.{namedSlots}
 use Rattle.reference.specs.Sound.{slotsSound}
+use Rattle.segments.specs.declared.Table.{Table}
 use Rattle.soundness.proofs.SlotLaws.{slots-next, slots-none}
 use borrow.Author.Needs.{needs}
 use borrow.Author.Tests.{not-false, not-true}
@@ -12,27 +15,30 @@ use Rattle.soundness.proofs.slots.slots_sound.Statement.{statement}
 use Rattle.soundness.proofs.slots.slots_sound.Tie as tie
 
 abbrev Inv-loop : tie.InvT-loop
-Inv-loop t store i₀ i = (i ≤ 8) × (slotsSound t store 8 0 ≡ slotsSound t store (8 - i) i)
+Inv-loop store named i₀ i = (i ≤ 8) × ((t : Table) → named ≡ namedSlots t → slotsSound t store 8 0 ≡ slotsSound t store (8 - i) i)
 
 abbrev μ-loop : tie.MeasureT-loop
-μ-loop t store i₀ i = 8 - i
+μ-loop store named i₀ i = 8 - i
 
 loop-holds : tie.Need-loop-holds Inv-loop μ-loop
-loop-holds c = (omega arith, refl)
+loop-holds c = (omega arith, λ t e. refl)
 
-names-requires : tie.Need-names-requires Inv-loop μ-loop
-names-requires c κs = search needs
+cast-k : tie.Need-cast-k Inv-loop μ-loop
+cast-k c = search needs
 
 slot-bytes-requires : tie.Need-slot-bytes-requires Inv-loop μ-loop
 slot-bytes-requires c κs = search needs
+
+array-read-slot-sound : tie.Need-array-read-slot-sound Inv-loop μ-loop
+array-read-slot-sound c = search needs
 
 slot-sound-requires : tie.Need-slot-sound-requires Inv-loop μ-loop
 slot-sound-requires c κs = search needs
 
 returns : tie.Need-returns Inv-loop μ-loop
 returns c =
-    let l = c .before .before .before .before .before .loop in
-    rw (l .inv .1, slots-next (c .before .before .before .before .before .before .before .args .t) (now (c .before .before .before .before .before .before .before .args .store)) 8 (l .i) (omega arith), ← (c .before .before .before .names .ensures), ← (c .before .before .slot-bytes .ensures), sym (c .before .slot-sound .ensures) ∙ not-true _ (c .if1 .taken))
+    let l = c .before .before .before .before .loop in
+    λ t e. rw (l .inv .1 t e, slots-next t (now (c .before .before .before .before .before .before .args .store)) 8 (l .i) (omega arith), named-here t _ (l .i) e (omega arith), ← (c .before .before .slot-bytes .ensures), sym (c .before .slot-sound .ensures) ∙ not-true _ (c .if1 .taken))
 
 add-i : tie.Need-add-i Inv-loop μ-loop
 add-i c = search needs
@@ -42,13 +48,13 @@ loop-less c = search needs
 
 loop-again : tie.Need-loop-again Inv-loop μ-loop
 loop-again c =
-    let l = c .before .before .before .before .before .loop in
-    (omega arith, rw (l .inv .1, slots-next (c .before .before .before .before .before .before .before .args .t) (now (c .before .before .before .before .before .before .before .args .store)) 8 (l .i) (omega arith), ← (c .before .before .before .names .ensures), ← (c .before .before .slot-bytes .ensures), sym (c .before .slot-sound .ensures) ∙ not-false _ (c .if1 .left)))
+    let l = c .before .before .before .before .loop in
+    (omega arith, λ t e. rw (l .inv .1 t e, slots-next t (now (c .before .before .before .before .before .before .args .store)) 8 (l .i) (omega arith), named-here t _ (l .i) e (omega arith), ← (c .before .before .slot-bytes .ensures), sym (c .before .slot-sound .ensures) ∙ not-false _ (c .if1 .left)))
 
 returns-2 : tie.Need-returns-2 Inv-loop μ-loop
 returns-2 c =
     let l = c .before .loop in
-    sym (l .inv .1 ∙ slots-none (c .before .before .before .args .t) (now (c .before .before .before .args .store)) 8 (l .i) (omega arith))
+    λ t e. sym (l .inv .1 t e ∙ slots-none t (now (c .before .before .before .args .store)) 8 (l .i) (omega arith))
 
 pub slots-sound-spec : {M : Type 1} → statement M
 slots-sound-spec =
@@ -57,8 +63,9 @@ slots-sound-spec =
     Inv-loop
     μ-loop
     loop-holds
-    names-requires
+    cast-k
     slot-bytes-requires
+    array-read-slot-sound
     slot-sound-requires
     returns
     add-i
