@@ -1,40 +1,41 @@
-//! Two pieces of work timed side by side.
+//! Pieces of work timed side by side.
 
 use std::hint::black_box;
-use std::time::Instant;
+use std::time::{Duration, Instant};
 
-const ROUNDS: usize = 15;
-const ROUND_NANOSECONDS: u128 = 4_000_000;
+pub const ROUNDS: usize = 40;
+pub const ROUND: Duration = Duration::from_millis(1);
 
-/// Prints a row: the shortest time of a call in any round, the rounds of the two taking turns.
-pub fn compare<A, B>(name: &str, mut core: impl FnMut() -> A, mut rust: impl FnMut() -> B) {
-    let (many, few) = (calls_a_round(&mut core), calls_a_round(&mut rust));
-    let (mut ours, mut theirs) = (f64::MAX, f64::MAX);
-    for _ in 0..ROUNDS {
-        ours = ours.min(nanoseconds_a_call(&mut core, many));
-        theirs = theirs.min(nanoseconds_a_call(&mut rust, few));
-    }
-    println!("| {name} | {ours:.0} | {theirs:.0} | {:.2} |", ours / theirs);
-}
+/// Makes so many calls and says how long they took.
+pub type Turn<'a> = Box<dyn FnMut(u32) -> Duration + 'a>;
 
-fn calls_a_round<T>(work: &mut impl FnMut() -> T) -> u32 {
-    let mut calls = 1;
-    loop {
+/// The loop is inside, so that no call goes through a pointer.
+pub fn turn<'a, T>(mut work: impl FnMut() -> T + 'a) -> Turn<'a> {
+    Box::new(move |calls| {
         let start = Instant::now();
         (0..calls).for_each(|_| {
             black_box(work());
         });
-        if start.elapsed().as_nanos() > ROUND_NANOSECONDS {
-            return calls;
-        }
-        calls *= 2;
-    }
+        start.elapsed()
+    })
 }
 
-fn nanoseconds_a_call<T>(work: &mut impl FnMut() -> T, calls: u32) -> f64 {
-    let start = Instant::now();
-    (0..calls).for_each(|_| {
-        black_box(work());
-    });
-    start.elapsed().as_nanos() as f64 / f64::from(calls)
+/// The shortest time of a call in nanoseconds, of each rival in any round; in each round all of them take their turns.
+pub fn shortest(rivals: &mut [&mut Turn]) -> Vec<f64> {
+    let calls: Vec<u32> = rivals.iter_mut().map(|rival| calls_a_round(rival)).collect();
+    let mut times = vec![f64::MAX; rivals.len()];
+    for _ in 0..ROUNDS {
+        for ((rival, calls), time) in rivals.iter_mut().zip(&calls).zip(&mut times) {
+            *time = time.min(rival(*calls).as_nanos() as f64 / f64::from(*calls));
+        }
+    }
+    times
+}
+
+fn calls_a_round(rival: &mut Turn) -> u32 {
+    let mut calls = 1;
+    while rival(calls) < ROUND {
+        calls *= 2;
+    }
+    calls
 }

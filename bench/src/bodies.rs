@@ -1,0 +1,26 @@
+//! The bodies that are read.
+
+use independent::generate::bodies::{LayoutPlan, ServerPlan};
+
+/// The body of a captured layout4 starts behind 28 bytes.
+const BODY: usize = 28;
+const ONE_MIRROR: &[u8] = include_bytes!("../../captures/stock/A1_v42_ipv4_lg000_0.bin");
+const THREE_MIRRORS: &[u8] = include_bytes!("../../captures/patched-server/P2_3mirrors_multi_lg000_0.bin");
+pub const DEVICE: &[u8] = include_bytes!("../../captures/patched-server/P2_3mirrors_multi_gd000.bin");
+
+/// Captured, 104 bytes.
+pub fn one_mirror() -> &'static [u8] {
+    &ONE_MIRROR[BODY..]
+}
+
+/// Captured, 344 bytes; its first server is on the captured device.
+pub fn three_mirrors() -> &'static [u8] {
+    &THREE_MIRRORS[BODY..]
+}
+
+/// So many mirrors and servers, 80 bytes each, as in the captures; bodies with different hints differ in their last four bytes only.
+pub fn striped(mirrors: usize, servers: usize, hint: u32) -> Vec<u8> {
+    let server = |m: usize, s: usize| ServerPlan::sized((m * servers + s) as u8, &[20], 1, 1);
+    let mirrors = (0..mirrors).map(|m| (0..servers).map(|s| server(m, s)).collect()).collect();
+    LayoutPlan { unit: 65_536, mirrors, flags: 0, hint }.encode().bytes
+}

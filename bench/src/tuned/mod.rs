@@ -1,0 +1,13 @@
+//! The events and lookups once more, written from the scope paper to be fast: over references, without allocation, in plain safe Rust. Same checks, same
+//! order of refusals, same results as the core.
+
+pub mod bytes;
+pub mod edits;
+pub mod events;
+pub mod layout;
+pub mod layout4;
+pub mod locate;
+pub mod ranges;
+pub mod soundness;
+pub mod store;
+pub mod table;
