@@ -1,4 +1,5 @@
 pub mod PushLists
 pub mod DraftLaws
 pub mod PartLaws
+pub mod TurnLaws
 pub mod TableLaws

@@ -1,11 +1,14 @@
 // A list of segments under construction. Segments are pushed in the order of their bytes, and joined where they touch.
+use crate::change::Change;
+use crate::place;
+use crate::turn;
 use segments::BLANK;
 use segments::Segment;
-ghost use mathlib.Core.Path.{_≡_};
-ghost use mathlib.Core.List.{[], _∷_};
+ghost use mathlib.Core.List.{[]};
 ghost use Prim.Native.Nat.{_≤_};
-ghost use Rattle.table.specs.Edits.{touching};
-ghost use Rattle.table.specs.Drafts.{Adds, Holds};
+ghost use lib.ListN.{take};
+ghost use Rattle.table.specs.Edits.{edited};
+ghost use Rattle.table.specs.Drafts.{Holds};
 
 // Once a segment has found no place, the draft is full and stays so.
 pub(crate) struct Draft {
@@ -14,7 +17,7 @@ pub(crate) struct Draft {
     pub full: bool,
 }
 
-pub(crate) fn empty_draft() -> Draft
+fn empty_draft() -> Draft
     ensures { λ r. ⌜ Holds r [] ⌝ }
 {
     Draft {
@@ -24,50 +27,27 @@ pub(crate) fn empty_draft() -> Draft
     }
 }
 
-// Whether s goes on where a ends, with the same right under the same body.
-fn touches(a: Segment, s: Segment) -> bool
-    ensures { λ r. ⌜ r ≡ touching a s ⌝ }
+// The draft of an edit of n segments. Each turn writes one place: a draft that went through a call in each turn would be copied there.
+pub(crate) fn draft_of(items: [Segment; 32], n: usize, c: Change, first: u64, last: u64) -> Draft
+    requires { ⌜ n ≤ 32 ⌝ }
+    ensures { λ r. ⌜ Holds r (edited c first last (take n items)) ⌝ }
 {
-    // What ends before another starts ends below the largest number, so that the sum exists.
-    if a.last < s.first {
-        if a.last + 1 == s.first {
-            let x = a.right;
-            let y = s.right;
-            return segments::same_right(x, y);
-        }
+    let m = turn::middle_turns(c, n);
+    let mut r = empty_draft();
+    let mut i: usize = 0;
+    while i < n + m + n {
+        let j = turn::turn_place(i, n, m);
+        let s = items[j];
+        let p = turn::turn_part(i, n, m, s, c, first, last);
+        let k = place::newest(r.count);
+        let a = r.items[k];
+        let w = place::place_for(r.count, r.full, a, p);
+        let at = w.at;
+        let t = w.segment;
+        r.items[at] = t;
+        r.count = w.count;
+        r.full = w.full;
+        i += 1;
     }
-    false
-}
-
-pub(crate) fn push(d: Draft, s: Segment) -> Draft
-    requires { ⌜ d .count ≤ 32 ⌝ }
-    ensures { λ r. ⌜ Adds d (s ∷ []) r ⌝ }
-{
-    if d.full {
-        return d;
-    }
-    let n = d.count;
-    let mut r = d;
-    if n == 0 {
-        r.items[0] = s;
-        r.count = 1;
-        return r;
-    }
-    let a = d.items[n - 1];
-    if touches(a, s) {
-        let right = a.right;
-        r.items[n - 1] = Segment {
-            first: a.first,
-            last: s.last,
-            right,
-        };
-        return r;
-    }
-    if n < 32 {
-        r.items[n] = s;
-        r.count = n + 1;
-        return r;
-    }
-    r.full = true;
     r
 }

@@ -3,10 +3,10 @@ mod change;
 mod draft;
 mod iomodes;
 mod part;
-mod parts;
+mod place;
+mod turn;
 
 pub use change::Change;
 pub use change::Edited;
 pub use change::EditedTable;
-pub use change::edit;
 pub use iomodes::edit_table;

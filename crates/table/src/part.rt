@@ -1,12 +1,15 @@
-// The part of one segment before, inside or after a range, pushed on a draft.
-use crate::draft;
-use crate::draft::Draft;
+// The part of one segment before, inside or after a range.
 use segments::Right;
 use segments::Segment;
 ghost use mathlib.Core.Path.{_≡_};
-ghost use Prim.Native.Nat.{max, min, _≤_};
+ghost use Prim.Native.Nat.{max, min};
 ghost use Rattle.table.specs.Edits.{after, before, inside, recalledOf};
-ghost use Rattle.table.specs.Drafts.{Adds};
+ghost use Rattle.table.specs.Drafts.{piece};
+
+pub(crate) enum Part {
+    Nothing,
+    Some(Segment),
+}
 
 fn smaller(a: u64, b: u64) -> u64
     ensures { λ r. ⌜ r ≡ min a b ⌝ }
@@ -30,28 +33,23 @@ fn recalled(right: Right) -> Right
     }
 }
 
-pub(crate) fn push_before(d: Draft, s: Segment, first: u64) -> Draft
-    requires { ⌜ d .count ≤ 32 ⌝ }
-    ensures { λ r. ⌜ Adds d (before first s) r ⌝ }
+pub(crate) fn part_before(s: Segment, first: u64) -> Part
+    ensures { λ r. ⌜ piece r ≡ before first s ⌝ }
 {
     if s.first < first {
         let last = smaller(s.last, first - 1);
         let right = s.right;
-        return draft::push(
-            d,
-            Segment {
-                first: s.first,
-                last,
-                right,
-            },
-        );
+        return Part::Some(Segment {
+            first: s.first,
+            last,
+            right,
+        });
     }
-    d
+    Part::Nothing
 }
 
-pub(crate) fn push_inside(d: Draft, s: Segment, first: u64, last: u64) -> Draft
-    requires { ⌜ d .count ≤ 32 ⌝ }
-    ensures { λ r. ⌜ Adds d (inside first last s) r ⌝ }
+pub(crate) fn part_inside(s: Segment, first: u64, last: u64) -> Part
+    ensures { λ r. ⌜ piece r ≡ inside first last s ⌝ }
 {
     if s.first <= last {
         if first <= s.last {
@@ -59,34 +57,27 @@ pub(crate) fn push_inside(d: Draft, s: Segment, first: u64, last: u64) -> Draft
             let to = smaller(s.last, last);
             let held = s.right;
             let right = recalled(held);
-            return draft::push(
-                d,
-                Segment {
-                    first: from,
-                    last: to,
-                    right,
-                },
-            );
+            return Part::Some(Segment {
+                first: from,
+                last: to,
+                right,
+            });
         }
     }
-    d
+    Part::Nothing
 }
 
-pub(crate) fn push_after(d: Draft, s: Segment, last: u64) -> Draft
-    requires { ⌜ d .count ≤ 32 ⌝ }
-    ensures { λ r. ⌜ Adds d (after last s) r ⌝ }
+pub(crate) fn part_after(s: Segment, last: u64) -> Part
+    ensures { λ r. ⌜ piece r ≡ after last s ⌝ }
 {
     if last < s.last {
         let first = larger(s.first, last + 1);
         let right = s.right;
-        return draft::push(
-            d,
-            Segment {
-                first,
-                last: s.last,
-                right,
-            },
-        );
+        return Part::Some(Segment {
+            first,
+            last: s.last,
+            right,
+        });
     }
-    d
+    Part::Nothing
 }

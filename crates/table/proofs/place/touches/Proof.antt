@@ -1,7 +1,7 @@
 use Rattle.table.proofs.PushLists.{touching-far, touching-next, touching-past}
 use borrow.Author.Needs.{needs}
-use Rattle.table.proofs.draft.touches.Statement.{statement}
-use Rattle.table.proofs.draft.touches.Tie as tie
+use Rattle.table.proofs.place.touches.Statement.{statement}
+use Rattle.table.proofs.place.touches.Tie as tie
 
 add-if2 : tie.Need-add-if2
 add-if2 c = search needs

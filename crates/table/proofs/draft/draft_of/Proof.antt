@@ -1,0 +1,108 @@
+use Prim.Native.Nat.{_+_, _-_, _≤_}
+use Rattle.table.proofs.DraftLaws.{mapped-long, turn-written}
+use Rattle.table.proofs.TurnLaws.{turns, turns-end, turns-next, turns-none}
+use Rattle.table.specs.Drafts.{Holds}
+use Rattle.table.specs.Edits.{pushAll}
+use borrow.Author.Needs.{needs}
+use lib.ListN.{length}
+use mathlib.Core.List.{[]}
+use mathlib.Core.Path.{_≡_}
+use native.Mathlib.Omega.{arith}
+use Rattle.table.proofs.draft.draft_of.Statement.{statement}
+use Rattle.table.proofs.draft.draft_of.Tie as tie
+
+abbrev Inv-loop : tie.InvT-loop
+Inv-loop n c first last items m r₀ i₀ r i = (i ≤ n + m + n) × (Holds r (pushAll [] (turns c first last items n m i)))
+
+abbrev μ-loop : tie.MeasureT-loop
+μ-loop n c first last items m r₀ i₀ r i = n + m + n - i
+
+middle-turns-requires : tie.Need-middle-turns-requires Inv-loop μ-loop
+middle-turns-requires c κs = search needs
+
+empty-draft-requires : tie.Need-empty-draft-requires Inv-loop μ-loop
+empty-draft-requires c κs = search needs
+
+loop-holds : tie.Need-loop-holds Inv-loop μ-loop
+unfolding pushAll
+loop-holds c = (omega arith, rw (turns-none (c .before .before .args .c) (c .before .before .args .first) (c .before .before .args .last) (c .before .before .args .t1) (c .before .before .args .n) (c .before .middle-turns .result)) (c .empty-draft .ensures))
+
+add-loop : tie.Need-add-loop Inv-loop μ-loop
+add-loop c = let q = c .before .before .middle-turns .ensures .1 in omega arith
+
+add-loop-2 : tie.Need-add-loop-2 Inv-loop μ-loop
+add-loop-2 c = let q = c .before .before .middle-turns .ensures .1 in omega arith
+
+turn-place-requires : tie.Need-turn-place-requires Inv-loop μ-loop
+turn-place-requires c κs = (c .before .before .before .before .pre, c .before .before .before .middle-turns .ensures .1, c .loop-test .taken)
+
+mul-s : tie.Need-mul-s Inv-loop μ-loop
+mul-s c = let q = c .turn-place .ensures .1 in omega arith
+
+array-copy-out-s : tie.Need-array-copy-out-s Inv-loop μ-loop
+array-copy-out-s c = let q = c .turn-place .ensures .1 in omega arith
+
+turn-part-requires : tie.Need-turn-part-requires Inv-loop μ-loop
+turn-part-requires c κs = (c .before .before .before .before .before .before .pre, c .before .before .before .before .before .middle-turns .ensures .1)
+
+newest-requires : tie.Need-newest-requires Inv-loop μ-loop
+newest-requires c κs = search needs
+
+mul-a : tie.Need-mul-a Inv-loop μ-loop
+mul-a c = let h = c .before .before .before .before .before .loop .inv .1 .small in let e = c .newest .ensures in omega arith
+
+element-copy-out-a : tie.Need-element-copy-out-a Inv-loop μ-loop
+element-copy-out-a c = let h = c .before .before .before .before .before .loop .inv .1 .small in let e = c .newest .ensures in omega arith
+
+place-for-requires : tie.Need-place-for-requires Inv-loop μ-loop
+place-for-requires c κs = c .before .before .before .before .before .before .loop .inv .1 .small
+
+mul-t : tie.Need-mul-t Inv-loop μ-loop
+mul-t c = let h = c .before .place-for .ensures .there in omega arith
+
+element-set-from-t : tie.Need-element-set-from-t Inv-loop μ-loop
+element-set-from-t c = let h = c .before .place-for .ensures .there in omega arith
+
+add-i : tie.Need-add-i Inv-loop μ-loop
+add-i c = let q = c .before .before .before .before .before .before .before .before .before .before .middle-turns .ensures .1 in omega arith
+
+loop-less : tie.Need-loop-less Inv-loop μ-loop
+loop-less c = let q = c .before .before .before .before .before .before .before .before .before .before .middle-turns .ensures .1 in omega arith
+
+loop-again : tie.Need-loop-again Inv-loop μ-loop
+loop-again c =
+    let a = c .before .before .before .before .before .before .before .before .before .before .before .args in
+    let k : length (a .t1) ≡ 32 = search (needs, mapped-long) in
+    (omega arith, turn-written (c .before .before .before .before .before .before .before .before .loop .r) (c .before .place-for .result) _ (c .before .before .before .newest .result) _ _ _ _ (c .before .before .before .newest .ensures) (c .before .place-for .ensures) (c .before .before .before .before .turn-part .ensures) (turns-next (a .c) (a .first) (a .last) (a .t1) (a .n) (c .before .before .before .before .before .before .before .before .before .before .middle-turns .result) (c .before .before .before .before .before .before .before .before .loop .i) _ _ k (c .before .before .before .before .before .before .before .before .before .before .before .pre) (c .before .before .before .before .before .before .before .before .before .before .middle-turns .ensures .1) (c .before .before .before .before .before .before .before .loop-test .taken) (c .before .before .before .before .before .before .turn-place .ensures .0)) (c .before .before .before .before .before .before .before .before .loop .inv .1))
+
+returns : tie.Need-returns Inv-loop μ-loop
+returns c =
+    let a = c .before .before .before .before .args in
+    let k : length (a .t1) ≡ 32 = search (needs, mapped-long) in
+    rw (← (turns-end (a .c) (a .first) (a .last) (a .t1) (a .n) (c .before .before .before .middle-turns .result) (c .before .loop .i) k (c .before .before .before .middle-turns .ensures .0) (omega arith))) (c .before .loop .inv .1)
+
+pub draft-of-spec : {M : Type 1} → statement M
+draft-of-spec =
+    tie.close
+    (tie.spec
+    Inv-loop
+    μ-loop
+    middle-turns-requires
+    empty-draft-requires
+    loop-holds
+    add-loop
+    add-loop-2
+    turn-place-requires
+    mul-s
+    array-copy-out-s
+    turn-part-requires
+    newest-requires
+    mul-a
+    element-copy-out-a
+    place-for-requires
+    mul-t
+    element-set-from-t
+    add-i
+    loop-less
+    loop-again
+    returns)

@@ -1,0 +1,29 @@
+use borrow.Author.Needs.{needs}
+use Rattle.table.proofs.turn.part_middle.Statement.{statement}
+use Rattle.table.proofs.turn.part_middle.Tie as tie
+
+enum-known-c : tie.Need-enum-known-c
+enum-known-c c = search needs
+
+enum-told : tie.Need-enum-told
+enum-told c = search needs
+
+enum-told-2 : tie.Need-enum-told-2
+enum-told-2 c = search needs
+
+part-inside-requires : tie.Need-part-inside-requires
+part-inside-requires c κs = search needs
+
+returns : tie.Need-returns
+returns c = rw (c .before .c .given .1)
+
+returns-2 : tie.Need-returns-2
+returns-2 c = search needs
+
+returns-3 : tie.Need-returns-3
+returns-3 c = rw (c .before .enum-told2 .given .1) (c .part-inside .ensures)
+
+pub part-middle-spec : {M : Type 1} → statement M
+part-middle-spec =
+    tie.close
+    (tie.spec enum-known-c enum-told enum-told-2 part-inside-requires returns returns-2 returns-3)
