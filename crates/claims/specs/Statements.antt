@@ -10,7 +10,8 @@ use Rattle.server.specs.Servers.{serverAt}
 use Rattle.server.specs.declared.item.Server.{Server}
 use Rattle.segments.specs.declared.Right.the-variants.{Granted}
 use Rattle.segments.specs.declared.Table.{Table}
-use Rattle.segments.specs.Segments.{Mode, RW, actsOn, blank, listIn}
+use Rattle.segments.specs.Segments.{Mode, RW, blank, listIn}
+use Rattle.route.specs.Routes.{iomodeFor}
 use Rattle.route.specs.declared.piece.Piece.{Piece}
 
 -- a data server is read at this place, and its fields stand where RFC 8435 has them
@@ -23,10 +24,10 @@ pub record ServerStands (s : List ℕ) (at : ℕ) : Type 0 where
   pub stateid : server .stateid ≡ at + 20
   pub handles : server .handles ≡ beValue (bytesFrom 4 s (at + 36))
 
--- a piece lies in a granted segment of an iomode that it names; for a write that is RW
+-- a piece lies in one segment of the iomode that it names, granted under the slot that it names; for a write that iomode is RW
 pub record PieceStands (write : Bool) (t : Table) (offset : ℕ) (p : Piece) : Type 0 where
   pub mode : Mode
-  pub named : actsOn (p .iomode) mode ≡ true
+  pub named : p .iomode ≡ iomodeFor mode
   pub place : ℕ
   pub there : place < length (listIn t mode)
   pub first : getD (listIn t mode) place blank .first ≤ offset

@@ -3,11 +3,12 @@
 //
 // Demand 1 and the first sentence of demand 2 are the contracts themselves: no public function has a `requires`, each returns, and its one
 // `ensures` is an equation with a definition in specs/, which quotes the scope paper. `layoutBody` is what `layout::read_layout` answers,
-// `deviceBody` `device::read_device`, `boundTo` `binding::bind`, `reportBody` `report::read_reports`, `reportsWritten` both writers of reports,
-// `called` the four events, `routed` `route::locate`, `calledOn` the exported events. Here stands what follows from these, and demand 3.
+// `layout4` `layout4::read_layout4`, `deviceBody` `device::read_device`, `boundTo` `binding::bind`, `reportBody` `report::read_reports`,
+// `reportsWritten` both writers of reports, `called` the four events, `routed` `route::locate`, `calledOn` the exported events. Here stands what
+// follows from these, and demand 3.
 //
 // `accepted v` is an answer with its value, `refused n` a refusal with the scope paper's number, and `n ≡ 0 → ⊥` says that n is not 0.
-ghost use Prim.Native.Nat.{ℕ, _+_, _-_, _*_, _/_, _^_, _<_, _≤_};
+ghost use Prim.Native.Nat.{ℕ, _+_, _-_, _*_, _/_, _%_, _^_, _<_, _≤_};
 ghost use mathlib.Core.Path.{_≡_};
 ghost use mathlib.Core.Logic.{_⊎_};
 ghost use mathlib.Core.Bool.{Bool, true};
@@ -23,7 +24,7 @@ ghost use Rattle.report.specs.Reports.{Report, reportBody};
 ghost use Rattle.report.specs.Answers.{headsOf};
 ghost use Rattle.report.specs.declared.ReportHead.{ReportHead};
 ghost use Rattle.report_write.specs.Places.{Each, HeadFits, RecordFits, placed, recordsIn};
-ghost use Rattle.report_write.specs.Writing.{ErrorRecord, reportsWritten};
+ghost use Rattle.report_write.specs.Writing.{ErrorRecord, after, reportsWritten};
 ghost use Rattle.base.specs.Ranges.{toTheEnd};
 ghost use Rattle.segments.specs.declared.Table.{Table};
 ghost use Rattle.segments.specs.Segments.{RW, emptyTable, listIn, listOf, rightAt};
@@ -39,8 +40,47 @@ ghost use Rattle.events.specs.Events.{InFile, called};
 ghost use Rattle.examples.specs.Examples.{AllHold, examples};
 ghost use Rattle.record.specs.Records.{recordOf, tableIn};
 ghost use Rattle.record.specs.declared.types.TableRecord.{TableRecord};
-ghost use Rattle.driver.specs.Calls.{calledOn};
+ghost use Rattle.driver.specs.Calls.{calledOn, recorded};
 ghost use Rattle.claims.specs.Statements.{PieceStands, ServerStands};
+
+// ---- Demand 1: a refusal changes nothing, and nothing else is refused
+
+// Demand 1 of the events: a refused one leaves table and store as they were, whatever they are.
+pub fn refused_events_change_nothing()
+    ensures { λ r. ⌜ ((e : Event) (t : Table) (store : List ℕ)
+        → (called e t store .answer ≡ 0 → ⊥) → (called e t store .table ≡ t) × (called e t store .store ≡ store)) ⌝ }
+{}
+
+// Demand 1 of the exported events: a refused one gives back the record that it was handed, whatever that is, and leaves the store as it was.
+pub fn refused_calls_keep_records()
+    ensures { λ r. ⌜ ((e : Event) (given : TableRecord) (store : List ℕ)
+        → (calledOn e given store .refusal ≡ 0 → ⊥)
+        → (calledOn e given store .table ≡ given) × (calledOn e given store .store ≡ store)) ⌝ }
+{}
+
+// Demand 1 of the writer: a refused body leaves the output as it was.
+pub fn refused_reports_keep_the_output()
+    ensures { λ r. ⌜ ((count : ℕ) (heads : List ReportHead) (errors : List ErrorRecord) (out : List ℕ) (n : ℕ)
+        → reportsWritten count heads errors (length out) ≡ refused n
+        → after out (reportsWritten count heads errors (length out)) ≡ out) ⌝ }
+{}
+
+// "Nothing else is refused": a binding refuses with the number of the layout body, of the device body, or with 16, 8, 13, 14 or 15. It reads the
+// server and the filehandle again, and that never fails.
+pub fn bindings_refuse_as_listed()
+    ensures { λ r. ⌜ ((layout : List ℕ) (mirror stripe : ℕ) (device id : List ℕ) (supported n : ℕ)
+        → boundTo layout mirror stripe device id supported ≡ refused n
+        → (layoutBody layout ≡ refused n) ⊎ ((deviceBody device ≡ refused n)
+        ⊎ ((n ≡ 16) ⊎ ((n ≡ 8) ⊎ ((n ≡ 13) ⊎ ((n ≡ 14) ⊎ (n ≡ 15))))))) ⌝ }
+{}
+
+// "Nothing else is refused": an I/O request is refused with 20, 5 or 17. It reads the layout body of a granted segment, and that never fails.
+pub fn requests_refuse_as_listed()
+    ensures { λ r. ⌜ ((write : Bool) (t : Table) (store : List ℕ) (offset len n : ℕ) → routed write t store offset len ≡ refused n
+        → (n ≡ 20) ⊎ (n ≡ 5) ⊎ (n ≡ 17)) ⌝ }
+{}
+
+// ---- Demand 2: bodies
 
 // A number that was written in k bytes is read back, for every width k.
 pub fn numbers_written_are_read()
@@ -71,15 +111,6 @@ pub fn other_starts_are_zero()
         → (m k : ℕ) → k < 16 → (l .summary .mirrors ≤ m) ⊎ (l .summary .servers ≤ k) → getD (l .starts) (m * 16 + k) 0 ≡ 0) ⌝ }
 {}
 
-// "Nothing else is refused": a binding refuses with the number of the layout body, of the device body, or with 16, 8, 13, 14 or 15. It reads the
-// server and the filehandle again, and that never fails.
-pub fn bindings_refuse_as_listed()
-    ensures { λ r. ⌜ ((layout : List ℕ) (mirror stripe : ℕ) (device id : List ℕ) (supported n : ℕ)
-        → boundTo layout mirror stripe device id supported ≡ refused n
-        → (layoutBody layout ≡ refused n) ⊎ ((deviceBody device ≡ refused n)
-        ⊎ ((n ≡ 16) ⊎ ((n ≡ 8) ⊎ ((n ≡ 13) ⊎ ((n ≡ 14) ⊎ (n ≡ 15))))))) ⌝ }
-{}
-
 // Reading what was written gives the same reports, and at their places the same errors, for values that their fields can hold. The first report
 // stands at 4, behind the count.
 pub fn reports_written_are_read()
@@ -100,6 +131,42 @@ pub fn no_report_is_eight_zeros()
         × (reportBody (replicate 8 0) ≡ accepted []) ⌝ }
 {}
 
+// ---- Demand 2: where an I/O goes
+
+// Each offset goes to the stripe of the sparse mapping, at full width: each byte x of an answered piece has the stripe (x div unit) mod servers of the
+// layout body in the answered slot, which is the stripe answered; with one server it is 0. The stripe is below the server count and the mirrors are some
+// of the layout's, so that at (mirror, stripe) stands a data server (`starts_are_servers`).
+pub fn pieces_go_to_their_stripe()
+    ensures { λ r. ⌜ ((write : Bool) (t : Table) (store : List ℕ) (offset len : ℕ) (p : Piece) (l : Layout)
+        → routed write t store offset len ≡ accepted p → layoutIn store (p .slot .0) ≡ accepted l
+        → (l .summary .servers ≡ 1 → p .stripe .0 ≡ 0)
+        × (1 < l .summary .servers → (x : ℕ) → offset ≤ x → x < offset + p .length → p .stripe .0 ≡ x / l .summary .unit % l .summary .servers)
+        × (p .stripe .0 < l .summary .servers)
+        × (1 ≤ p .mirrors) × (p .mirrors < 2 ^ l .summary .mirrors)) ⌝ }
+{}
+
+// Where an I/O goes: an answered piece begins with its request, is not empty and not longer, and with more than one server lies in one stripe unit.
+pub fn pieces_lie_in_request_and_unit()
+    ensures { λ r. ⌜ ((write : Bool) (t : Table) (store : List ℕ) (offset len : ℕ) (p : Piece) → routed write t store offset len ≡ accepted p
+        → (1 ≤ p .length) × (p .length ≤ len) × (p .offset ≡ offset)
+        × ((l : Layout) → layoutIn store (p .slot .0) ≡ accepted l → 1 < l .summary .servers
+        → offset / l .summary .unit ≡ (offset + p .length - 1) / l .summary .unit)) ⌝ }
+{}
+
+// An answered piece lies in one segment of the iomode that it names, granted under the slot that it names; for a write that iomode is RW.
+pub fn pieces_lie_in_granted_segments()
+    ensures { λ r. ⌜ ((write : Bool) (t : Table) (store : List ℕ) (offset len : ℕ) (p : Piece) → routed write t store offset len ≡ accepted p
+        → PieceStands write t offset p) ⌝ }
+{}
+
+// No write is answered for a byte that is recalled or not held.
+pub fn writes_need_a_grant()
+    ensures { λ r. ⌜ ((t : Table) (store : List ℕ) (offset len : ℕ) (p : Piece) → routed true t store offset len ≡ accepted p
+        → rightAt (listIn t RW) offset ≡ Granted (p .slot)) ⌝ }
+{}
+
+// ---- Demand 3
+
 // Demand 3, undivided, of the calls that grant, layout_return, recall and revoke are proved to be (the `ensures` in events/src/grants.rt and
 // ranges.rt): after every list of events from the empty table and the zeroed store their answers, table and store are those of the reference model,
 // which the scope paper calls the ledger (reference/specs/Model.antt). `Agreed` in reference/specs/Claim.antt has one field for each sentence.
@@ -108,27 +175,11 @@ pub fn demand_3()
 {}
 
 // Demand 3 fails of calls that refuse everything with one number, of calls that answer as any others do and change nothing, and of calls that obey
-// any others only while nothing is held.
+// any others while nothing is held and then answer as any others do and change nothing.
 pub fn stand_ins_fall()
     ensures { λ r. ⌜ ((n : ℕ) → (n ≡ 0 → ⊥) → Demand3 (refusesAll n) → ⊥)
         × ((call : Calls) → Demand3 (changesNothing call) → ⊥)
-        × ((call : Calls) → Demand3 (firstOnly call) → ⊥) ⌝ }
-{}
-
-// The starred lines of the scope paper's worked examples, one list of cases of one type, in examples/specs/Examples.antt.
-pub fn worked_examples_hold()
-    ensures { λ r. ⌜ AllHold examples ⌝ }
-{}
-
-// Other worked examples of the table, computed on the reference model for short files: answers and segments of each list of events.
-pub fn table_examples_hold()
-    ensures { λ r. ⌜ cases.AllHold cases.cases ⌝ }
-{}
-
-// Demand 1 of the events: a refused one leaves table and store as they were, whatever they are.
-pub fn refused_events_change_nothing()
-    ensures { λ r. ⌜ ((e : Event) (t : Table) (store : List ℕ)
-        → (called e t store .answer ≡ 0 → ⊥) → (called e t store .table ≡ t) × (called e t store .store ≡ store)) ⌝ }
+        × ((call later : Calls) → Demand3 (firstOnly call later) → ⊥) ⌝ }
 {}
 
 // After every list of events table and store are sound. `called` refuses with 20 only where they are not, so after calls alone 20 never comes.
@@ -145,41 +196,25 @@ pub fn whole_file_events_always_fit()
         × (called Revoke t store .answer ≡ 23 → ⊥)) ⌝ }
 {}
 
-// Where an I/O goes: an answered piece begins with its request, is not empty and not longer, and with more than one server lies in one stripe unit.
-pub fn pieces_lie_in_request_and_unit()
-    ensures { λ r. ⌜ ((write : Bool) (t : Table) (store : List ℕ) (offset len : ℕ) (p : Piece) → routed write t store offset len ≡ accepted p
-        → (1 ≤ p .length) × (p .length ≤ len) × (p .offset ≡ offset)
-        × ((l : Layout) → layoutIn store (p .slot .0) ≡ accepted l → 1 < l .summary .servers
-        → offset / l .summary .unit ≡ (offset + p .length - 1) / l .summary .unit)) ⌝ }
-{}
-
-// An answered piece lies in one segment, granted under the slot that it names; for a write that is a segment of RW.
-pub fn pieces_lie_in_granted_segments()
-    ensures { λ r. ⌜ ((write : Bool) (t : Table) (store : List ℕ) (offset len : ℕ) (p : Piece) → routed write t store offset len ≡ accepted p
-        → PieceStands write t offset p) ⌝ }
-{}
-
-// No write is answered for a byte that is recalled or not held.
-pub fn writes_need_a_grant()
-    ensures { λ r. ⌜ ((t : Table) (store : List ℕ) (offset len : ℕ) (p : Piece) → routed true t store offset len ≡ accepted p
-        → rightAt (listIn t RW) offset ≡ Granted (p .slot)) ⌝ }
-{}
-
-// "Nothing else is refused": an I/O request is refused with 20, 5 or 17. It reads the layout body of a granted segment, and that never fails.
-pub fn requests_refuse_as_listed()
-    ensures { λ r. ⌜ ((write : Bool) (t : Table) (store : List ℕ) (offset len n : ℕ) → routed write t store offset len ≡ refused n
-        → (n ≡ 20) ⊎ (n ≡ 5) ⊎ (n ≡ 17)) ⌝ }
-{}
-
 // A table crosses to C as a record of plain numbers: the record of a table stands for that table, and what a record stands for has that record.
 pub fn records_stand_for_tables()
     ensures { λ r. ⌜ ((t : Table) → tableIn (recordOf t) ≡ accepted t)
         × ((given : TableRecord) (t : Table) → tableIn given ≡ accepted t → recordOf t ≡ given) ⌝ }
 {}
 
-// Demand 1 of the exported events: a refused one gives back the record that it was handed, whatever that is, and leaves the store as it was.
-pub fn refused_calls_keep_records()
-    ensures { λ r. ⌜ ((e : Event) (given : TableRecord) (store : List ℕ)
-        → (calledOn e given store .refusal ≡ 0 → ⊥)
-        → (calledOn e given store .table ≡ given) × (calledOn e given store .store ≡ store)) ⌝ }
+// The exported events are the events: on the record of a table they leave the record of the table that `called` leaves. So demand 3 is theirs.
+pub fn exported_events_are_the_events()
+    ensures { λ r. ⌜ ((e : Event) (t : Table) (store : List ℕ) → calledOn e (recordOf t) store ≡ recorded (called e t store)) ⌝ }
+{}
+
+// ---- Worked examples
+
+// The starred lines of the scope paper's worked examples, one list of cases of one type, in examples/specs/Examples.antt.
+pub fn worked_examples_hold()
+    ensures { λ r. ⌜ AllHold examples ⌝ }
+{}
+
+// Other worked examples of the table, computed on the reference model for short files: answers and segments of each list of events.
+pub fn table_examples_hold()
+    ensures { λ r. ⌜ cases.AllHold cases.cases ⌝ }
 {}

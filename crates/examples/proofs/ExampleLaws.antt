@@ -14,7 +14,7 @@ use Rattle.report.specs.Reports.{errorFits}
 use Rattle.report_write.specs.Writing.{allFit, bodyBytes, counts, errorBytes, errorsBytes, fitted, headBytes, judged, judgedOne, reportsBytes, reportsWritten}
 use Rattle.route.specs.Mirrors.{best, bestMirror, efficiencyOf}
 use Rattle.route.specs.Routes.{grantAt, layoutIn, mirrorsNamed, pieceAt, readFromRw, routed, servedBy, writeServed}
-use Rattle.route.specs.Stripes.{pieceLength, stripeOf, unitIndex, unitRest}
+use Rattle.route.specs.Stripes.{pieceLength, stripeOf, unitRest}
 use Rattle.segments.specs.Segments.{anyBelow, anyNames, inFront, inPlaces, isNamed, scan, segmentsOf, withByte}
 use Rattle.server.specs.Servers.{handlesAt, headAt, serverAt}
 use Rattle.store.specs.Store.{bodyIn, kindIn, lengthIn, slotBytes, storeOf}
@@ -23,5 +23,5 @@ use Rattle.xdr.specs.Res.{inside, manyAt, then, whole}
 use Rattle.examples.specs.Examples.{AllHold, examples}
 
 pub examples-hold : AllHold examples
-unfolding given pick grantIomodeOf iomodeOf padded rangeLast requestLast frontAt layoutAt layoutBody mirrorAt mirrorsAt rows startsOf tailAt unitFits frameAt layout4 layout4At rangeAt beAt beBytes beFrom beValue leAt leBytes leValue sameBytes bodyOf grantBytes servers act afterAt answerTo answers anyByte covers grantOrder ifNamed inLowest inSlots meets modelAfter noneEmpty own rangeOrder run segmentsIn slotOf tooMany verdict allBlank apart apartFromNext inOrder noTwoAlike segmentsSound slotSound slotsFrom slotsIn slotsSound sound errorFits allFit bodyBytes counts errorBytes errorsBytes fitted headBytes judged judgedOne reportsBytes reportsWritten best bestMirror efficiencyOf grantAt layoutIn mirrorsNamed pieceAt readFromRw routed servedBy writeServed pieceLength stripeOf unitIndex unitRest anyBelow anyNames inFront inPlaces isNamed scan segmentsOf withByte handlesAt headAt serverAt bodyIn kindIn lengthIn slotBytes storeOf allZero bytesAt countAt numAt opaqueAt inside manyAt then whole
+unfolding given pick grantIomodeOf iomodeOf padded rangeLast requestLast frontAt layoutAt layoutBody mirrorAt mirrorsAt rows startsOf tailAt unitFits frameAt layout4 layout4At rangeAt beAt beBytes beFrom beValue leAt leBytes leValue sameBytes bodyOf grantBytes servers act afterAt answerTo answers anyByte covers grantOrder ifNamed inLowest inSlots meets modelAfter noneEmpty own rangeOrder run segmentsIn slotOf tooMany verdict allBlank apart apartFromNext inOrder noTwoAlike segmentsSound slotSound slotsFrom slotsIn slotsSound sound errorFits allFit bodyBytes counts errorBytes errorsBytes fitted headBytes judged judgedOne reportsBytes reportsWritten best bestMirror efficiencyOf grantAt layoutIn mirrorsNamed pieceAt readFromRw routed servedBy writeServed pieceLength stripeOf unitRest anyBelow anyNames inFront inPlaces isNamed scan segmentsOf withByte handlesAt headAt serverAt bodyIn kindIn lengthIn slotBytes storeOf allZero bytesAt countAt numAt opaqueAt inside manyAt then whole
 examples-hold = (refl, (refl, (refl, (refl, (refl, (refl, ((refl, refl, refl), ((refl, refl, refl), ((refl, refl, refl), ((refl, refl, refl), (refl, (refl, ((refl, refl, refl), (refl, tt))))))))))))))

@@ -10,7 +10,7 @@ use lib.ListN.{getD, replicate}
 use Rattle.base.specs.Answer.{accepted, given, pick}
 use Rattle.base.specs.Iomodes.{grantIomodeOf}
 use Rattle.base.specs.Ranges.{lastByte, rangeLast, requestLast, toTheEnd}
-use Rattle.base.specs.declared.iomode.Iomode.the-variants.{ReadWrite}
+use Rattle.base.specs.declared.iomode.Iomode.the-variants.{Any, ReadWrite}
 use Rattle.numbers.specs.Numbers.{AllBytes, beBytes, beFrom, beValue}
 use Rattle.xdr.specs.Res.{inside, manyAt, then, whole}
 use Rattle.xdr.specs.Items.{allZero, bytesAt, countAt, numAt, opaqueAt}
@@ -19,11 +19,11 @@ use Rattle.layout.specs.Layouts.{frontAt, layoutAt, layoutBody, mirrorsAt, tail
 use Rattle.layout4.specs.Layout4s.{frameAt, layout4, layout4At, rangeAt}
 use Rattle.segments.specs.declared.Table.{Table}
 use Rattle.segments.specs.Segments.{Mode, READ, RW, anyBelow, emptyTable, inPlaces, rightAt, segmentsOf}
-use Rattle.segments.proofs.Canon.{Below, Canon, at-in, granted-some}
+use Rattle.segments.proofs.Canon.{Below, Canon, at-in, at-none, granted-some}
 use Rattle.segments.proofs.Fewest.{scan-only}
 use Rattle.segments.proofs.ScanLaws.{any-none}
 use Rattle.store.specs.Store.{Body, Slot}
-use Rattle.reference.specs.Model.{ByteRight, none, granted, Event, Revoke, Order, act, afterAt, answerTo, answers, anyByte, covers, grantOrder, grants, inSlots, meets, noneEmpty, own, segmentsIn, slotOf, start, stops21, stops22, tooMany, verdict, withSlot}
+use Rattle.reference.specs.Model.{ByteRight, none, granted, Model, Event, Revoke, Order, act, afterAt, answerTo, answers, anyByte, covers, grantOrder, grants, inSlots, meets, modelAfter, noneEmpty, own, revokes, segmentsIn, slotOf, start, stops21, stops22, tooMany, verdict, withSlot}
 use Rattle.reference.specs.Claim.{AllFit, Calls, Demand3, Left, acceptedOf, answered, orderOf, rightGiven, rightIn, storeLeft, tableLeft}
 use Rattle.reference.specs.Cases.{bodyOf, grantBytes, grantOf, grantedIn, servers}
 use Rattle.reference.specs.StandIns.{changesNothing, firstOnly, refusesAll}
@@ -31,12 +31,12 @@ use Rattle.reference.proofs.Inv.{no-segments}
 
 -- ---- at the start the model accepts a grant of every byte
 
-no-byte-met : (N : ℕ) (o : Order) (test : ByteRight → Bool) → test none ≡ false → meets N o test start ≡ false
+no-byte-met : (N : ℕ) (o : Order) (test : ByteRight → Bool) (M : Model) → ((m : Mode) (x : ℕ) → test (M .right m x) ≡ false) → meets N o test M ≡ false
 unfolding meets anyByte
-no-byte-met N o test h = rw (nowhere READ, nowhere RW)
+no-byte-met N o test M h = rw (nowhere READ, nowhere RW)
   where
-    nowhere : (m : Mode) → anyBelow (λ x. covers o m x && test none) (suc N) ≡ false
-    nowhere m = any-none (λ x. covers o m x && test none) (suc N) (λ x k. rw h (and-false (covers o m x)))
+    nowhere : (m : Mode) → anyBelow (λ x. covers o m x && test (M .right m x)) (suc N) ≡ false
+    nowhere m = any-none (λ x. covers o m x && test (M .right m x)) (suc N) (λ x k. rw (h m x) (and-false (covers o m x)))
 
 module _ (N : ℕ) (b : Body) where
   abbrev every : Order
@@ -70,7 +70,28 @@ module _ (N : ℕ) (b : Body) where
   every-byte-granted : verdict N every start ≡ 0
   unfolding verdict inSlots noneEmpty
   every-byte-granted =
-      rw (no-byte-met N every (stops21 (grants b)) refl, no-byte-met N every (stops22 (grants b)) refl, few-segments)
+      rw (no-byte-met N every (stops21 (grants b)) start (λ m x. refl), no-byte-met N every (stops22 (grants b)) start (λ m x. refl), few-segments)
+
+-- ---- and always a revoke
+
+module _ (N : ℕ) (M : Model) where
+  abbrev nothing : Order
+  nothing = record { deed = revokes; iomode = Any; first = 0; last = N }
+
+  none-right : (ss : List Slot) (m : Mode) → segmentsOf N (λ x. withSlot ss (afterAt nothing m x (M .right m x))) ≡ []
+  unfolding Canon Below afterAt covers pick
+  none-right ss m =
+      sym
+      (scan-only N (λ x. withSlot ss (afterAt nothing m x (M .right m x))) [] tt tt
+      (λ x h. at-none x ∙ rw (le-leb 0 x (omega arith), le-leb x N h)))
+
+  no-segment-left : (m : Mode) → segmentsIn N (act N nothing M) m ≡ []
+  unfolding segmentsIn act
+  no-segment-left m = none-right (act N nothing M .slots) m
+
+  revoke-accepted : verdict N nothing M ≡ 0
+  unfolding verdict tooMany
+  revoke-accepted = rw (no-byte-met N nothing (stops21 revokes) M (λ m x. refl), no-segment-left READ, no-segment-left RW)
 
 -- ---- that grant, in its bytes
 
@@ -81,9 +102,17 @@ whole-file-read : own wholeFile ≡ accepted (record { deed = grants (bodyOf 0 1
 unfolding wholeFile own grantOrder given pick bodyOf servers grantBytes beBytes beFrom beValue layout4 layout4At frameAt rangeAt rangeLast requestLast grantIomodeOf then inside whole manyAt allZero bytesAt countAt numAt opaqueAt headAt handlesAt serverAt frontAt layoutAt layoutBody mirrorsAt tailAt unitFits
 whole-file-read = refl
 
+whole-file-granted : answerTo lastByte (own wholeFile) start ≡ 0
+unfolding answerTo
+whole-file-granted = rw whole-file-read (every-byte-granted lastByte (bodyOf 0 1 0))
+
 whole-file-accepted : answers lastByte (wholeFile ∷ []) start ≡ 0 ∷ []
-unfolding answers answerTo
-whole-file-accepted = rw whole-file-read (ap (λ (n : ℕ). n ∷ []) (every-byte-granted lastByte (bodyOf 0 1 0)))
+unfolding answers
+whole-file-accepted = ap (λ (n : ℕ). n ∷ []) whole-file-granted
+
+both-accepted : answers lastByte (wholeFile ∷ Revoke ∷ []) start ≡ 0 ∷ 0 ∷ []
+unfolding answers answerTo own
+both-accepted = ap₂ (λ (n k : ℕ). n ∷ k ∷ []) whole-file-granted (revoke-accepted lastByte (modelAfter lastByte (own wholeFile) start))
 
 -- each element is a byte, by a test
 unfoldable areBytes : List ℕ → Bool
@@ -146,36 +175,30 @@ unfolding tableLeft storeLeft emptyTable inPlaces
 changes-nothing-falls call d =
     granted-not-none (bodyOf 0 1 0) (sym (right-shown (changesNothing call) d) ∙ no-right-shown emptyTable (replicate 32768 0) 0 refl)
 
-module _ (call : Calls) (d : Demand3 (firstOnly call)) where
+module _ (call later : Calls) (d : Demand3 (firstOnly call later)) where
   -- what the grant leaves
   abbrev first : Left
-  first = firstOnly call wholeFile emptyTable (replicate 32768 0)
+  first = firstOnly call later wholeFile emptyTable (replicate 32768 0)
 
   first-shows : rightIn (first .table) (first .store) RW 0 ≡ granted (bodyOf 0 1 0)
   unfolding tableLeft storeLeft
-  first-shows = right-shown (firstOnly call) d
+  first-shows = right-shown (firstOnly call later) d
 
-  first-accepted : first .answer ≡ 0
-  unfolding answered
-  first-accepted = ap (λ (ns : List ℕ). getD ns 0 1) (d (wholeFile ∷ []) whole-file-fits .same-answers ∙ whole-file-accepted)
-
-  second-ignored : firstOnly call Revoke (first .table) (first .store) ≡ record { answer = 0; table = first .table; store = first .store }
+  second-ignored : firstOnly call later Revoke (first .table) (first .store)
+      ≡ record { answer = later Revoke (first .table) (first .store) .answer; table = first .table; store = first .store }
   unfolding pick
   second-ignored =
       rw
       (ne-eqb (first .table .rw .count) 0 (λ e. granted-not-none (bodyOf 0 1 0) (sym first-shows ∙ no-right-shown (first .table) (first .store) 0 e)), and-false)
 
-  still-shows : rightIn (tableLeft (firstOnly call) (wholeFile ∷ Revoke ∷ []) emptyTable (replicate 32768 0)) (storeLeft (firstOnly call) (wholeFile ∷ Revoke ∷ []) emptyTable (replicate 32768 0)) RW 0 ≡ granted (bodyOf 0 1 0)
+  still-shows : rightIn (tableLeft (firstOnly call later) (wholeFile ∷ Revoke ∷ []) emptyTable (replicate 32768 0)) (storeLeft (firstOnly call later) (wholeFile ∷ Revoke ∷ []) emptyTable (replicate 32768 0)) RW 0 ≡ granted (bodyOf 0 1 0)
   unfolding tableLeft storeLeft
   still-shows = ap (λ (l : Left). rightIn (l .table) (l .store) RW 0) second-ignored ∙ first-shows
 
-  both-accepted : answered (firstOnly call) (wholeFile ∷ Revoke ∷ []) emptyTable (replicate 32768 0) ≡ 0 ∷ 0 ∷ []
-  unfolding answered
-  both-accepted = ap₂ (λ (n k : ℕ). n ∷ k ∷ []) first-accepted (ap (λ (l : Left). l .answer) second-ignored)
-
-pub first-only-falls : (call : Calls) → Demand3 (firstOnly call) → ⊥
-first-only-falls call d =
+pub first-only-falls : (call later : Calls) → Demand3 (firstOnly call later) → ⊥
+first-only-falls call later d =
+    let a = d (wholeFile ∷ Revoke ∷ []) whole-file-revoke-fits in
     granted-not-none (bodyOf 0 1 0)
-    (sym (still-shows call d)
-    ∙ (d (wholeFile ∷ Revoke ∷ []) whole-file-revoke-fits .rights RW 0 (omega arith)
-    ∙ (ap (λ (ns : List ℕ). rightGiven (acceptedOf (wholeFile ∷ Revoke ∷ []) ns) RW 0 none) (both-accepted call d) ∙ revoked-behind-it)))
+    (sym (still-shows call later d)
+    ∙ (a .rights RW 0 (omega arith)
+    ∙ (ap (λ (ns : List ℕ). rightGiven (acceptedOf (wholeFile ∷ Revoke ∷ []) ns) RW 0 none) (a .same-answers ∙ both-accepted) ∙ revoked-behind-it)))

@@ -13,9 +13,9 @@ refusesAll n e t store = record { answer = n; table = t; store = store }
 abbrev pub changesNothing : Calls → Calls
 changesNothing call e t store = record { answer = call e t store .answer; table = t; store = store }
 
--- obeys while no byte is held; afterwards it accepts every event and changes nothing
-abbrev pub firstOnly : Calls → Calls
-firstOnly call e t store =
+-- obeys while no byte is held; afterwards it answers as others do and changes nothing
+abbrev pub firstOnly : Calls → Calls → Calls
+firstOnly call later e t store =
     pick (eqb (t .read .count) 0 && eqb (t .rw .count) 0)
     (call e t store)
-    (record { answer = 0; table = t; store = store })
+    (record { answer = later e t store .answer; table = t; store = store })

@@ -1,11 +1,12 @@
 -- Laws of the mirror that is picked: the highest efficiency, the lowest number on a tie.
-use Prim.Native.Nat.{ℕ, zero, suc, _+_, _-_, _≤_, _<_}
+use Prim.Native.Nat.{ℕ, zero, suc, _+_, _-_, _^_, _≤_, _<_}
 use mathlib.Core.Path.{_≡_, refl, sym, ap, _∙_}
 use mathlib.Core.Bool.{Bool, true, false, not, _&&_}
 use mathlib.Core.List.{List}
 use native.Mathlib.Omega.{arith}
 use native.Mathlib.Decide.{decLe, decLt}
 use borrow.Author.Tests.{le-ltb, lt-ltb}
+use lib.Pow.{pow-lt, pow-pos}
 use Rattle.base.specs.Answer.{pick}
 use Rattle.layout.specs.Layouts.{Layout}
 use Rattle.route.specs.Mirrors.{allOf, best, bestMirror, efficiencyOf, only}
@@ -133,3 +134,29 @@ one-named true body l h = rw (one (oneMirror (l .summary .flags)) h)
     one true e = refl
     one false e = sym e
 one-named false body l h = refl
+
+-- what is named is some of the layout's mirrors
+pub some-named : (write : Bool) (body : List ℕ) (l : Layout) → 1 ≤ l .summary .mirrors
+    → (1 ≤ mirrorsNamed write body l) × (mirrorsNamed write body l < 2 ^ l .summary .mirrors)
+unfolding mirrorsNamed bestMirror pick
+some-named write body l h = go write (oneMirror (l .summary .flags))
+  where
+    m : ℕ
+    m = l .summary .mirrors
+
+    picked : ℕ
+    picked = best (efficiencyOf body (l .starts) 0) (m - 1)
+
+    one : (1 ≤ 2 ^ picked) × (2 ^ picked < 2 ^ m)
+    one =
+        let b : picked ≤ m - 1 = best-is-one (efficiencyOf body (l .starts) 0) (m - 1) in
+        let k : picked < m = omega arith in
+        (pow-pos picked, pow-lt k)
+
+    all : (1 ≤ 2 ^ m - 1) × (2 ^ m - 1 < 2 ^ m)
+    all = let k : 1 < 2 ^ m = pow-lt {i = 0} h in (omega arith, omega arith)
+
+    go : (w b : Bool) → (1 ≤ pick w (pick b (2 ^ picked) (2 ^ m - 1)) (2 ^ picked)) × (pick w (pick b (2 ^ picked) (2 ^ m - 1)) (2 ^ picked) < 2 ^ m)
+    go true true = one
+    go true false = all
+    go false b = one

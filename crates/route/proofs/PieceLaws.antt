@@ -1,24 +1,29 @@
--- What holds of an I/O request's answer: the piece lies in the request, in its segment and in its stripe unit; a write has a grant; a refusal is
--- 20, 5 or 17.
-use Prim.Native.Nat.{ℕ, _+_, _-_, _/_, _≤_, _<_}
+-- What holds of an I/O request's answer: the piece lies in the request, in its segment and in its stripe unit, and its stripe is that of each of
+-- its bytes; a write has a grant; a refusal is 20, 5 or 17.
+use Prim.Native.Nat.{ℕ, _+_, _-_, _/_, _%_, _^_, _≤_, _<_}
 use mathlib.Core.Path.{_≡_, refl, sym, ap, _∙_}
 use mathlib.Core.Logic.{_⊎_, inl, inr}
 use mathlib.Core.Bool.{Bool, true, false}
 use mathlib.Core.List.{List}
+use native.Mathlib.Decide.{decLt}
+use native.Mathlib.Nat.{mod-lt}
 use native.Mathlib.Omega.{arith}
 use lib.ListN.{length, getD}
 use Rattle.base.specs.Answer.{Answer, accepted, refused, given, pick}
 use Rattle.base.specs.Ranges.{requestLast}
 use Rattle.layout.specs.Layouts.{Layout}
+use Rattle.layout.proofs.LayoutLaws.{accepted-limits}
 use Rattle.segments.specs.declared.Right.the-variants.{Granted}
 use Rattle.segments.specs.declared.Table.{Table}
 use Rattle.segments.specs.Segments.{Mode, RW, blank, listIn, rightAt}
+use Rattle.store.specs.Store.{bodyIn, slotAt}
 use Rattle.reference.specs.Sound.{sound}
-use Rattle.route.specs.Routes.{Serving, layoutIn, pieceAt, routed, served}
-use Rattle.route.specs.Stripes.{pieceLength}
+use Rattle.route.specs.Routes.{Serving, iomodeFor, layoutIn, mirrorsNamed, pieceAt, routed, served}
+use Rattle.route.specs.Stripes.{pieceLength, stripeOf}
 use Rattle.route.specs.declared.piece.Piece.{Piece}
-use Rattle.route.proofs.ServedLaws.{gave, grant-found, iomodeFor, never-accepted, never-refused, request-refused, same-answer, same-refusal, served-limits, served-refused, what-serves}
-use Rattle.route.proofs.StripeLaws.{piece-in-len, piece-in-rest, piece-in-unit-rest, piece-some, same-unit}
+use Rattle.route.proofs.MirrorLaws.{some-named}
+use Rattle.route.proofs.ServedLaws.{gave, grant-found, never-accepted, never-refused, request-refused, same-answer, same-refusal, served-limits, served-refused, what-serves}
+use Rattle.route.proofs.StripeLaws.{one-stripe, piece-in-len, piece-in-rest, piece-in-unit-rest, piece-some, same-unit, stripe-by-unit}
 
 -- ---- a request's answer by parts
 
@@ -100,24 +105,72 @@ module _ (write : Bool) (t : Table) (store : List ℕ) (offset len : ℕ) where
           in-rw = w .in-rw;
         }
 
-    -- with more than one server, the piece's first and last byte are in one stripe unit
-    pub piece-in-unit : (l : Layout) → layoutIn store (p .slot .0) ≡ accepted l → 1 < l .summary .servers
-        → offset / l .summary .unit ≡ (offset + p .length - 1) / l .summary .unit
-    unfolding pieceAt
-    piece-in-unit l h k =
-        let r = by-parts in
-        let v = r .serving in
-        let w = what-serves t store offset write v (r .serves) in
-        let m = served-limits write t store offset len (r .last) v (r .range) (r .serves) in
-        let i : v .grant .slot ≡ p .slot .0 = ap (λ (q : Piece). q .slot .0) (r .piece) in
-        let g : v .layout ≡ l = same-answer (v .layout) l (sym (w .layout) ∙ (ap (λ (j : ℕ). layoutIn store j) i ∙ h)) in
-        let c : 1 < v .layout .summary .servers = rw g k in
-        let n : pieceLength (v .layout .summary .unit) (v .layout .summary .servers) (v .grant .last) offset len ≡ p .length = ap (λ (q : Piece). q .length) (r .piece) in
-        let a = piece-some (v .layout .summary .unit) (v .layout .summary .servers) (v .grant .last) offset len (m .0) (m .4) in
-        let b = piece-in-unit-rest (v .layout .summary .unit) (v .layout .summary .servers) (v .grant .last) offset len c in
-        let u = same-unit (v .layout .summary .unit) offset (p .length - 1) (m .4 c) (omega arith) in
-        let z : offset + (p .length - 1) ≡ offset + p .length - 1 = omega arith in
-        rw (← g, ← z) (sym u)
+    -- ---- by the layout in the piece's slot
+    module _ (l : Layout) (h : layoutIn store (p .slot .0) ≡ accepted l) where
+      -- that layout serves
+      its-layout : by-parts .serving .layout ≡ l
+      unfolding pieceAt
+      its-layout =
+          let r = by-parts in
+          let v = r .serving in
+          let w = what-serves t store offset write v (r .serves) in
+          let i : v .grant .slot ≡ p .slot .0 = ap (λ (q : Piece). q .slot .0) (r .piece) in
+          same-answer (v .layout) l (sym (w .layout) ∙ (ap (λ (j : ℕ). layoutIn store j) i ∙ h))
+
+      -- with more than one server, each byte of the piece is in the unit of the first
+      bytes-in-unit : 1 < l .summary .servers → (x : ℕ) → offset ≤ x → x < offset + p .length → x / l .summary .unit ≡ offset / l .summary .unit
+      unfolding pieceAt
+      bytes-in-unit k x lo hi =
+          let r = by-parts in
+          let v = r .serving in
+          let m = served-limits write t store offset len (r .last) v (r .range) (r .serves) in
+          let g : v .layout ≡ l = its-layout in
+          let c : 1 < v .layout .summary .servers = rw g k in
+          let n : pieceLength (v .layout .summary .unit) (v .layout .summary .servers) (v .grant .last) offset len ≡ p .length = ap (λ (q : Piece). q .length) (r .piece) in
+          let b = piece-in-unit-rest (v .layout .summary .unit) (v .layout .summary .servers) (v .grant .last) offset len c in
+          let u = same-unit (v .layout .summary .unit) offset (x - offset) (m .4 c) (omega arith) in
+          let z : x ≡ offset + (x - offset) = omega arith in
+          rw (← g) (ap (λ (y : ℕ). y / v .layout .summary .unit) z ∙ u)
+
+      -- so are its first and its last
+      pub piece-in-unit : 1 < l .summary .servers → offset / l .summary .unit ≡ (offset + p .length - 1) / l .summary .unit
+      piece-in-unit k = let a = piece-in-request in sym (bytes-in-unit k (offset + p .length - 1) (omega arith) (omega arith))
+
+      its-stripe : p .stripe .0 ≡ stripeOf (l .summary .unit) (l .summary .servers) offset
+      unfolding pieceAt
+      its-stripe =
+          ap (λ (q : Piece). q .stripe .0) (sym (by-parts .piece))
+          ∙ ap (λ (y : Layout). stripeOf (y .summary .unit) (y .summary .servers) offset) its-layout
+
+      -- "Stripe number = (offset div unit) mod servers; with one server it is 0."
+      pub stripe-of-one : l .summary .servers ≡ 1 → p .stripe .0 ≡ 0
+      stripe-of-one k = its-stripe ∙ sym (one-stripe (l .summary .unit) (l .summary .servers) offset (omega arith))
+
+      pub stripe-of-each : 1 < l .summary .servers → (x : ℕ) → offset ≤ x → x < offset + p .length → p .stripe .0 ≡ x / l .summary .unit % l .summary .servers
+      stripe-of-each k x lo hi =
+          its-stripe ∙ sym (stripe-by-unit (l .summary .unit) (l .summary .servers) offset (x / l .summary .unit) k (bytes-in-unit k x lo hi))
+
+      -- the stripe and the mirrors are the layout's
+      pub stripe-below : p .stripe .0 < l .summary .servers
+      unfolding layoutIn
+      stripe-below = go (decLt 1 (l .summary .servers))
+        where
+          some : 1 ≤ l .summary .servers
+          some = accepted-limits (bodyIn (slotAt store (p .slot .0))) l h .servers-some
+
+          go : Dec (1 < l .summary .servers) → p .stripe .0 < l .summary .servers
+          go (yes k) =
+              let e = its-stripe ∙ sym (stripe-by-unit (l .summary .unit) (l .summary .servers) offset (offset / l .summary .unit) k refl) in
+              rw e (mod-lt (offset / l .summary .unit) (omega arith))
+          go (no k) = let s = some in let e = stripe-of-one (omega arith) in omega arith
+
+      pub mirrors-below : (1 ≤ p .mirrors) × (p .mirrors < 2 ^ l .summary .mirrors)
+      unfolding pieceAt layoutIn
+      mirrors-below =
+          let v = by-parts .serving in
+          let a = accepted-limits (bodyIn (slotAt store (p .slot .0))) l h .mirrors-some in
+          let e : mirrorsNamed write (bodyIn (slotAt store (v .grant .slot))) (v .layout) ≡ p .mirrors = ap (λ (q : Piece). q .mirrors) (by-parts .piece) in
+          rw (← e, its-layout) (some-named write (bodyIn (slotAt store (v .grant .slot))) l a)
 
   -- "Order: 20, 5, 17."
   pub refusals-are-listed : (n : ℕ) → routed write t store offset len ≡ refused n → (n ≡ 20) ⊎ (n ≡ 5) ⊎ (n ≡ 17)

@@ -24,7 +24,7 @@ use Rattle.segments.specs.declared.Table.{Table}
 use Rattle.segments.specs.Segments.{Mode, READ, RW, anyNames, blank, isNamed, isOfSlot, listIn, listOf, rightAt, within}
 use Rattle.store.specs.Store.{bodyIn, kindIn, lengthIn, slotAt}
 use Rattle.reference.specs.Sound.{allBlank, apartFromNext, hasSlot, inOrder, isAccepted, noTwoAlike, segmentsSound, slotSound, slotsIn, slotsSound, sound}
-use Rattle.route.specs.Routes.{Grant, Serving, grantAt, grantOf, layoutIn, noReads, readFromRw, readServed, served, servedBy, writeServed}
+use Rattle.route.specs.Routes.{Grant, Serving, grantAt, grantOf, iomodeFor, layoutIn, noReads, readFromRw, readServed, served, servedBy, writeServed}
 
 pub never-accepted : {A B : Type 0} (n : ℕ) (a : A) → refused n ≡ accepted a → B
 never-accepted n a e = let z : _≡_ {A = ℕ} 0 1 = cc in absurd (omega arith)
@@ -119,10 +119,6 @@ grant-refused (s ∷ l) x n e = go (within (s .first) (s .last) x) e (grant-refu
     go false k rest = rest k
 
 -- ---- what serves
-
-abbrev pub iomodeFor : Mode → Iomode
-iomodeFor READ = Read
-iomodeFor RW = ReadWrite
 
 pub record Serves (write : Bool) (t : Table) (store : List ℕ) (x : ℕ) (v : Serving) : Type 0 where
   pub mode : Mode

@@ -7,7 +7,7 @@ use native.Mathlib.Omega.{arith}
 use borrow.Author.Tests.{leb-false, le-leb, lt-leb}
 use lib.Dec.{leb}
 use Rattle.base.specs.Answer.{pick}
-use Rattle.route.specs.Stripes.{pieceLength, stripeOf, unitIndex, unitRest}
+use Rattle.route.specs.Stripes.{pieceLength, stripeOf, unitRest}
 
 -- ---- the unit of a byte
 
@@ -35,7 +35,7 @@ module _ (unit servers : ℕ) where
   unfolding stripeOf pick
   one-stripe offset h = rw (le-leb servers 1 h)
 
-  pub stripe-by-unit : (offset index : ℕ) → 1 < servers → index ≡ unitIndex unit offset → index % servers ≡ stripeOf unit servers offset
+  pub stripe-by-unit : (offset index : ℕ) → 1 < servers → index ≡ offset / unit → index % servers ≡ stripeOf unit servers offset
   unfolding stripeOf pick
   stripe-by-unit offset index h e = rw (lt-leb servers 1 h, e)
 

@@ -12,7 +12,7 @@ use Rattle.segments.specs.declared.Right.{Right}
 use Rattle.segments.specs.declared.Right.the-variants.{None, Granted, Recalled}
 use Rattle.segments.specs.declared.Segment.{Segment}
 use Rattle.segments.specs.declared.Table.{Table}
-use Rattle.segments.specs.Segments.{READ, RW, listIn, within}
+use Rattle.segments.specs.Segments.{Mode, READ, RW, listIn, within}
 use Rattle.store.specs.Store.{bodyIn, slotAt}
 use Rattle.reference.specs.Sound.{sound}
 use Rattle.route.specs.Stripes.{pieceLength, stripeOf}
@@ -48,6 +48,11 @@ abbrev pub oneMirror : ℕ → Bool
 oneMirror flags = eqb (flags / 8 % 2) 1
 
 -- ---- what serves
+
+-- the iomode that an answer names; it is never ANY
+abbrev pub iomodeFor : Mode → Iomode
+iomodeFor READ = Read
+iomodeFor RW = ReadWrite
 
 -- the iomode that serves a request, with the grant and the layout under which it does
 pub record Serving : Type 0 where

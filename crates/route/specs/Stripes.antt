@@ -4,15 +4,12 @@ use Prim.Native.Nat.{ℕ, _+_, _-_, _/_, _%_, min}
 use lib.Dec.{leb}
 use Rattle.base.specs.Answer.{pick}
 
--- which unit of the file a byte is in, and how many bytes of it are left from there on
-unfoldable pub unitIndex : ℕ → ℕ → ℕ
-unitIndex unit offset = offset / unit
-
+-- how many bytes of its unit are left from a byte on
 unfoldable pub unitRest : ℕ → ℕ → ℕ
 unitRest unit offset = unit - offset % unit
 
 unfoldable pub stripeOf : ℕ → ℕ → ℕ → ℕ
-stripeOf unit servers offset = pick (leb servers 1) 0 (unitIndex unit offset % servers)
+stripeOf unit servers offset = pick (leb servers 1) 0 (offset / unit % servers)
 
 -- "The piece answered is the shortest of the request, the rest of that segment, and, with more than one server, the rest of the stripe unit."
 unfoldable pub pieceLength : ℕ → ℕ → ℕ → ℕ → ℕ → ℕ

@@ -1,13 +1,13 @@
 // Stripes, by division and remainder: nothing is multiplied out, so nothing can wrap.
 use base::StripeNumber;
 ghost use mathlib.Core.Path.{_≡_};
-ghost use Prim.Native.Nat.{_≤_, _<_, min};
-ghost use Rattle.route.specs.Stripes.{pieceLength, stripeOf, unitIndex, unitRest};
+ghost use Prim.Native.Nat.{_/_, _≤_, _<_, min};
+ghost use Rattle.route.specs.Stripes.{pieceLength, stripeOf, unitRest};
 
 // Which unit of the file a byte is in.
 pub(crate) fn unit_index(unit: u64, offset: u64) -> u64
     requires { ⌜ 0 < unit ⌝ }
-    ensures { λ r. ⌜ r ≡ unitIndex unit offset ⌝ }
+    ensures { λ r. ⌜ r ≡ offset / unit ⌝ }
 {
     offset / unit
 }

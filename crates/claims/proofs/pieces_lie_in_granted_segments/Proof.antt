@@ -1,16 +1,7 @@
 -- `claims::pieces_lie_in_granted_segments` is the law of the same content in `route`.
-use mathlib.Core.Path.{_≡_, refl, ap, _∙_}
-use mathlib.Core.Bool.{true}
-use Rattle.base.specs.declared.iomode.Iomode.{Iomode}
-use Rattle.segments.specs.Segments.{Mode, READ, RW, actsOn}
 use Rattle.route.proofs.PieceLaws.{piece-in-segment}
-use Rattle.route.proofs.ServedLaws.{iomodeFor}
 use Rattle.claims.proofs.pieces_lie_in_granted_segments.Statement.{statement}
 use Rattle.claims.proofs.pieces_lie_in_granted_segments.Tie as tie
-
-acts : (m : Mode) → actsOn (iomodeFor m) m ≡ true
-acts READ = refl
-acts RW = refl
 
 returns : tie.Need-returns
 returns c =
@@ -18,7 +9,7 @@ returns c =
     let h = piece-in-segment write t store offset len p e in
     record {
       mode = h .mode;
-      named = ap (λ (i : Iomode). actsOn i (h .mode)) (h .iomode) ∙ acts (h .mode);
+      named = h .iomode;
       place = h .place;
       there = h .placed;
       first = h .first;

@@ -1,5 +1,4 @@
 -- `route::stripes::unit_index` meets its contract.
-use Rattle.route.specs.Stripes.{unitIndex}
 use borrow.Author.Needs.{needs}
 use mathlib.Core.Path.{refl}
 use Rattle.route.proofs.stripes.unit_index.Statement.{statement}
@@ -9,7 +8,6 @@ div-result : tie.Need-div-result
 div-result c = search needs
 
 returns : tie.Need-returns
-unfolding unitIndex
 returns c = refl
 
 pub unit-index-spec : {M : Type 1} → statement M
