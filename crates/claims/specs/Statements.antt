@@ -1,8 +1,9 @@
--- What the claims say of a place in a layout body, and of a piece of an I/O in a table.
+-- What the claims say of a refusal's number, of a place in a layout body, and of a piece of an I/O in a table.
 use Prim.Native.Nat.{ℕ, _+_, _-_, _≤_, _<_}
 use mathlib.Core.Path.{_≡_}
-use mathlib.Core.List.{List}
-use mathlib.Core.Bool.{Bool, true}
+use mathlib.Core.List.{List, [], _∷_}
+use mathlib.Core.Bool.{Bool, true, false, _||_}
+use lib.Dec.{eqb}
 use lib.ListN.{getD, length}
 use Rattle.numbers.specs.Numbers.{beValue, bytesFrom}
 use Rattle.xdr.specs.Res.{ok}
@@ -13,6 +14,11 @@ use Rattle.segments.specs.declared.Table.{Table}
 use Rattle.segments.specs.Segments.{Mode, RW, blank, listIn}
 use Rattle.route.specs.Routes.{iomodeFor}
 use Rattle.route.specs.declared.piece.Piece.{Piece}
+
+-- whether a number is in a list
+abbrev pub isOneOf : ℕ → List ℕ → Bool
+isOneOf n [] = false
+isOneOf n (k ∷ ks) = eqb n k || isOneOf n ks
 
 -- a data server is read at this place, and its fields stand where RFC 8435 has them
 pub record ServerStands (s : List ℕ) (at : ℕ) : Type 0 where

@@ -12,12 +12,13 @@ ghost use Prim.Native.Nat.{ℕ, _+_, _-_, _*_, _/_, _%_, _^_, _<_, _≤_};
 ghost use mathlib.Core.Path.{_≡_};
 ghost use mathlib.Core.Logic.{_⊎_};
 ghost use mathlib.Core.Bool.{Bool, true};
-ghost use mathlib.Core.List.{List, [], map};
+ghost use mathlib.Core.List.{List, [], _∷_, map};
 ghost use lib.ListN.{getD, length, replicate, take};
 ghost use Rattle.base.specs.Answer.{accepted, refused};
 ghost use Rattle.numbers.specs.Numbers.{AllBytes, beBytes, beValue};
 ghost use Rattle.server.specs.declared.item.Server.{Server};
 ghost use Rattle.layout.specs.Layouts.{Layout, layoutBody, startsOf};
+ghost use Rattle.layout4.specs.Layout4s.{layout4};
 ghost use Rattle.device.specs.Bodies.{deviceBody};
 ghost use Rattle.binding.specs.Bindings.{boundTo};
 ghost use Rattle.report.specs.Reports.{Report, reportBody};
@@ -41,7 +42,7 @@ ghost use Rattle.examples.specs.Examples.{AllHold, examples};
 ghost use Rattle.record.specs.Records.{recordOf, tableIn};
 ghost use Rattle.record.specs.declared.types.TableRecord.{TableRecord};
 ghost use Rattle.driver.specs.Calls.{calledOn, recorded};
-ghost use Rattle.claims.specs.Statements.{PieceStands, ServerStands};
+ghost use Rattle.claims.specs.Statements.{PieceStands, ServerStands, isOneOf};
 
 // ---- Demand 1: a refusal changes nothing, and nothing else is refused
 
@@ -63,6 +64,16 @@ pub fn refused_reports_keep_the_output()
     ensures { λ r. ⌜ ((count : ℕ) (heads : List ReportHead) (errors : List ErrorRecord) (out : List ℕ) (n : ℕ)
         → reportsWritten count heads errors (length out) ≡ refused n
         → after out (reportsWritten count heads errors (length out)) ≡ out) ⌝ }
+{}
+
+// "Nothing else is refused", of bodies read and written: the numbers that each can be refused with. 0, which stands for accepted, is none of them.
+pub fn bodies_refuse_as_listed()
+    ensures { λ r. ⌜ ((s : List ℕ) (n : ℕ) → layoutBody s ≡ refused n → isOneOf n (1 ∷ 2 ∷ 6 ∷ 8 ∷ 9 ∷ 10 ∷ 11 ∷ []) ≡ true)
+        × ((s : List ℕ) (n : ℕ) → layout4 s ≡ refused n → isOneOf n (1 ∷ 2 ∷ 3 ∷ 4 ∷ 5 ∷ 6 ∷ 8 ∷ 9 ∷ 10 ∷ 11 ∷ []) ≡ true)
+        × ((s : List ℕ) (n : ℕ) → deviceBody s ≡ refused n → isOneOf n (1 ∷ 2 ∷ 6 ∷ 7 ∷ 8 ∷ 12 ∷ []) ≡ true)
+        × ((s : List ℕ) (n : ℕ) → reportBody s ≡ refused n → isOneOf n (1 ∷ 2 ∷ 5 ∷ 8 ∷ 27 ∷ []) ≡ true)
+        × ((count : ℕ) (heads : List ReportHead) (errors : List ErrorRecord) (room n : ℕ) → reportsWritten count heads errors room ≡ refused n
+        → isOneOf n (5 ∷ 8 ∷ 26 ∷ 27 ∷ []) ≡ true) ⌝ }
 {}
 
 // "Nothing else is refused": a binding refuses with the number of the layout body, of the device body, or with 16, 8, 13, 14 or 15. It reads the

@@ -1,0 +1,2 @@
+pub mod BodyRefusals
+pub mod Faults
