@@ -75,7 +75,20 @@ mod tests {
     #[test]
     fn numbers_are_those_of_the_scope_paper() {
         assert_eq!(Refusal::BytesRunOut.number(), 1);
+        assert_eq!(Refusal::BytesLeftOver.number(), 2);
+        assert_eq!(Refusal::IomodeNotAllowed.number(), 3);
+        assert_eq!(Refusal::NotFlexibleFiles.number(), 4);
+        assert_eq!(Refusal::BadRange.number(), 5);
+        assert_eq!(Refusal::PaddingNotZero.number(), 6);
+        assert_eq!(Refusal::BadBoolean.number(), 7);
         assert_eq!(Refusal::OutsideLimit.number(), 8);
+        assert_eq!(Refusal::ServerCountsDiffer.number(), 9);
+        assert_eq!(Refusal::UnitDisagrees.number(), 10);
+        assert_eq!(Refusal::UnknownFlag.number(), 11);
+        assert_eq!(Refusal::BadVersionEntry.number(), 12);
+        assert_eq!(Refusal::DeviceDiffers.number(), 13);
+        assert_eq!(Refusal::NoSupportedVersion.number(), 14);
+        assert_eq!(Refusal::StateidNotAnonymous.number(), 15);
         assert_eq!(Refusal::BeyondLayout.number(), 16);
         assert_eq!(Refusal::RightLacking.number(), 17);
         assert_eq!(Refusal::Unsound.number(), 20);
