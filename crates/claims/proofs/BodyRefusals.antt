@@ -15,17 +15,17 @@ use Rattle.device.specs.Bodies.{deviceAt, deviceBody, listAt}
 use Rattle.report.specs.Reports as report
 use Rattle.report.specs.declared.ReportHead.{ReportHead}
 use Rattle.report_write.specs.Writing as write
-use Rattle.claims.proofs.Faults.{FaultsIn, RefusalsIn, allIn, asked, bool-faults, bytes-faults, chosen, count-faults, given-back, inside-faults, many-faults, num-faults, opaque-faults, read, run, sixteen-faults, tested, tested-answer, whole-refusals, wider}
+use Rattle.claims.proofs.Faults.{FaultsIn, RefusalsIn, accepts, allIn, asked, bool-faults, bytes-faults, chosen, count-faults, inside-faults, many-faults, num-faults, opaque-faults, read, run, sixteen-faults, tested, tested-answer, whole-refusals, wider}
 
 -- ---- ranges and iomodes
 
 range-refusals : (offset len : ℕ) → RefusalsIn (5 ∷ []) (rangeLast offset len)
 unfolding rangeLast requestLast
-range-refusals offset len = chosen _ given-back (tested-answer _ 5 (tested-answer _ 5 given-back refl) refl)
+range-refusals offset len = chosen _ accepts (tested-answer _ 5 (tested-answer _ 5 accepts refl) refl)
 
 iomode-refusals : (n : ℕ) → RefusalsIn (3 ∷ []) (grantIomodeOf n)
 unfolding grantIomodeOf
-iomode-refusals n = chosen _ given-back (tested-answer _ 3 given-back refl)
+iomode-refusals n = chosen _ accepts (tested-answer _ 3 accepts refl)
 
 -- ---- the layout body
 
@@ -195,15 +195,15 @@ one-refusals : (h : ReportHead) (es : List write.ErrorRecord) → RefusalsIn (5 
 unfolding write.judgedOne
 one-refusals h es =
     asked (range-refusals (h .offset) (h .length)) refl λ last.
-    tested-answer _ 8 (tested-answer _ 27 given-back refl) refl
+    tested-answer _ 8 (tested-answer _ 27 accepts refl) refl
 
 judged-refusals : (hs : List ReportHead) (es : List write.ErrorRecord) → RefusalsIn (5 ∷ 8 ∷ 27 ∷ []) (write.judged hs es)
 unfolding write.judged
-judged-refusals [] es = given-back
+judged-refusals [] es = accepts
 judged-refusals (h ∷ hs) es = asked (one-refusals h _) refl λ u. judged-refusals hs _
 
 pub written-refusals : (count : ℕ) (heads : List ReportHead) (errors : List write.ErrorRecord) (room : ℕ)
     → RefusalsIn (5 ∷ 8 ∷ 26 ∷ 27 ∷ []) (write.reportsWritten count heads errors room)
 unfolding write.reportsWritten write.fitted
 written-refusals count heads errors room =
-    tested-answer _ 8 (tested-answer _ 8 (asked (judged-refusals _ _) refl λ u. tested-answer _ 26 given-back refl) refl) refl
+    tested-answer _ 8 (tested-answer _ 8 (asked (judged-refusals _ _) refl λ u. tested-answer _ 26 accepts refl) refl) refl

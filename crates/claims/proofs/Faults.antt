@@ -11,6 +11,7 @@ use Rattle.base.specs.Answer.{Answer, accepted, refused, given, pick}
 use Rattle.xdr.specs.Res.{Res, ok, no, then, manyAt, inside, whole}
 use Rattle.xdr.specs.Items.{allZero, boolAt, bytesAt, countAt, numAt, opaqueAt}
 use Rattle.xdr.proofs.Accepted.{both}
+use Rattle.route.proofs.ServedLaws.{never-refused, same-refusal}
 use Rattle.claims.specs.Statements.{isOneOf}
 
 -- ---- lists of numbers
@@ -44,24 +45,18 @@ no-fault a p n e = let z : _≡_ {A = ℕ} 0 1 = cc in absurd (omega arith)
 same-fault : {A : Type 0} (n k : ℕ) → _≡_ {A = Res A} (no n) (no k) → n ≡ k
 same-fault n k e = cc
 
-not-refused : {A B : Type 0} (a : A) (n : ℕ) → accepted a ≡ refused n → B
-not-refused a n e = let z : _≡_ {A = ℕ} 0 1 = cc in absurd (omega arith)
-
-same-refusal : {A : Type 0} (n k : ℕ) → _≡_ {A = Answer A} (refused n) (refused k) → n ≡ k
-same-refusal n k e = cc
-
 module _ {A : Type 0} {ns : List ℕ} where
   pub read : {a : A} {p : ℕ} → FaultsIn ns (ok a p)
   read {a = a} {p = p} = record { fault = λ n e. no-fault a p n e }
 
-  faulty : (n : ℕ) → isOneOf n ns ≡ true → FaultsIn {A = A} ns (no n)
-  faulty n h = record { fault = λ k e. rw (← same-fault n k e) h }
+  stops : (n : ℕ) → isOneOf n ns ≡ true → FaultsIn {A = A} ns (no n)
+  stops n h = record { fault = λ k e. rw (← same-fault n k e) h }
 
-  pub given-back : {a : A} → RefusalsIn ns (accepted a)
-  given-back {a = a} = record { refusal = λ n e. not-refused a n e }
+  pub accepts : {a : A} → RefusalsIn ns (accepted a)
+  accepts {a = a} = record { refusal = λ n e. never-refused a n e }
 
-  turned : (n : ℕ) → isOneOf n ns ≡ true → RefusalsIn {A = A} ns (refused n)
-  turned n h = record { refusal = λ k e. rw (← same-refusal n k e) h }
+  refuses : (n : ℕ) → isOneOf n ns ≡ true → RefusalsIn {A = A} ns (refused n)
+  refuses n h = record { refusal = λ k e. rw (← same-refusal n k e) h }
 
   pub wider : {ms : List ℕ} {x : Res A} → FaultsIn ns x → allIn ns ms ≡ true → FaultsIn ms x
   wider {ms = ms} h i = record { fault = λ n e. in-wider ns ms i n (h .fault n e) }
@@ -75,7 +70,7 @@ then-faults : {A B : Type 0} (ns : List ℕ) (x : Res A) (f : A → ℕ → Res 
     → FaultsIn ns (then x f)
 unfolding then
 then-faults ns (ok a p) f h k = k a p
-then-faults ns (no n) f h k = faulty n (h .fault n refl)
+then-faults ns (no n) f h k = stops n (h .fault n refl)
 
 -- an item with a list of its own, and what follows it
 pub run : {A B : Type 0} {ns ms : List ℕ} {x : Res A} {f : A → ℕ → Res B} → FaultsIn ns x → allIn ns ms ≡ true
@@ -92,7 +87,7 @@ given-refusals : {A B : Type 0} (ns : List ℕ) (x : Answer A) (f : A → Answer
     → RefusalsIn ns (given x f)
 unfolding given
 given-refusals ns (accepted a) f h k = k a
-given-refusals ns (refused n) f h k = turned n (h .refusal n refl)
+given-refusals ns (refused n) f h k = refuses n (h .refusal n refl)
 
 -- an answer with a list of its own, and what follows it
 pub asked : {A B : Type 0} {ns ms : List ℕ} {x : Answer A} {f : A → Answer B} → RefusalsIn ns x → allIn ns ms ≡ true
@@ -105,7 +100,7 @@ module _ {A : Type 0} {ns : List ℕ} where
   pub tested : {x : Res A} (b : Bool) (n : ℕ) → FaultsIn ns x → isOneOf n ns ≡ true → FaultsIn ns (pick b x (no n))
   unfolding pick
   tested true n h i = h
-  tested false n h i = faulty n i
+  tested false n h i = stops n i
 
   -- a test that holds
   passed : {x : Res A} (y : Res A) → FaultsIn ns x → FaultsIn ns (pick true x y)
@@ -115,7 +110,7 @@ module _ {A : Type 0} {ns : List ℕ} where
   pub tested-answer : {x : Answer A} (b : Bool) (n : ℕ) → RefusalsIn ns x → isOneOf n ns ≡ true → RefusalsIn ns (pick b x (refused n))
   unfolding pick
   tested-answer true n h i = h
-  tested-answer false n h i = turned n i
+  tested-answer false n h i = refuses n i
 
   pub chosen : {x y : Answer A} (b : Bool) → RefusalsIn ns x → RefusalsIn ns y → RefusalsIn ns (pick b x y)
   unfolding pick
@@ -127,12 +122,12 @@ module _ {A : Type 0} {ns : List ℕ} where
   pub inside-faults : (x : Answer A) (at : ℕ) → RefusalsIn ns x → FaultsIn ns (inside x at)
   unfolding inside
   inside-faults (accepted a) at h = read
-  inside-faults (refused n) at h = faulty n (h .refusal n refl)
+  inside-faults (refused n) at h = stops n (h .refusal n refl)
 
   pub whole-refusals : (s : List ℕ) (x : Res A) → FaultsIn ns x → isOneOf 2 ns ≡ true → RefusalsIn ns (whole s x)
   unfolding whole
-  whole-refusals s (ok a at) h i = tested-answer (eqb at (length s)) 2 given-back i
-  whole-refusals s (no n) h i = turned n (h .fault n refl)
+  whole-refusals s (ok a at) h i = tested-answer (eqb at (length s)) 2 accepts i
+  whole-refusals s (no n) h i = refuses n (h .fault n refl)
 
 -- ---- the items of XDR
 

@@ -144,9 +144,9 @@ pub fn no_report_is_eight_zeros()
 
 // ---- Demand 2: where an I/O goes
 
-// Each offset goes to the stripe of the sparse mapping, at full width: each byte x of an answered piece has the stripe (x div unit) mod servers of the
-// layout body in the answered slot, which is the stripe answered; with one server it is 0. The stripe is below the server count and the mirrors are some
-// of the layout's, so that at (mirror, stripe) stands a data server (`starts_are_servers`).
+// "Each offset goes to the stripe and server of the sparse mapping, at full 64 bits": each byte x of an answered piece has the stripe (x div unit)
+// mod servers of the layout body in the answered slot, which is the stripe answered; with one server it is 0. The stripe is below the server count
+// and the mirrors are some of the layout's, so that at (mirror, stripe) stands a data server (`starts_are_servers`).
 pub fn pieces_go_to_their_stripe()
     ensures { λ r. ⌜ ((write : Bool) (t : Table) (store : List ℕ) (offset len : ℕ) (p : Piece) (l : Layout)
         → routed write t store offset len ≡ accepted p → layoutIn store (p .slot .0) ≡ accepted l
