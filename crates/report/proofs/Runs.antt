@@ -10,13 +10,13 @@ use lib.Dec.{leb}
 use lib.ListN.{length, drop, getD, replicate, set, length-append, length-drop}
 use lib.Seq.{append-snoc, set-at, take-suc, getD-drop}
 use Rattle.base.specs.Answer.{pick}
+use Rattle.base.specs.Lists.{padded}
 use Rattle.numbers.specs.Numbers.{beValue, bytesFrom}
 use Rattle.xdr.specs.Res.{Res, ok, no, then, manyAt}
 use Rattle.xdr.specs.Items.{allZero, bytesAt, countAt, numAt, padding}
 use Rattle.xdr.specs.declared.Part.{Part}
 use Rattle.xdr.proofs.Accepted.{Ran, both, ran, same-value}
 use Rattle.report.specs.Reports.{errorAt, errorsEnd, headAt, Report, reportAt}
-use Rattle.report.specs.Answers.{padded}
 use Rattle.report.specs.declared.ReportHead.{ReportHead}
 
 pub many-none : {A : Type 0} (item : List ℕ → ℕ → Res A) (n : ℕ) (s : List ℕ) (at : ℕ) → n ≡ 0 → manyAt item n s at ≡ ok [] at
@@ -135,7 +135,8 @@ padded-full i n s at h = let e : n - i ≡ 0 = omega arith in rw (e, h) (append-
 
 -- one more place of an array of 8
 pub padded-next : {A : Type 0} (d : A) (xs : List A) (i : ℕ) (a : A) → length xs ≡ i → i < 8
-    → set (padded d xs) i a ≡ padded d (xs ++ (a ∷ []))
+    → set (padded 8 d xs) i a ≡ padded 8 d (xs ++ (a ∷ []))
+unfolding padded
 padded-next d xs i a h k =
     let e : 8 - length (xs ++ (a ∷ [])) ≡ 8 - length xs - 1 = simp length-append (omega arith) in
     let m : 0 < 8 - length xs = omega arith in

@@ -1,8 +1,9 @@
 -- What the answers say: the values, or the number; and the arrays beside them.
-use Prim.Native.Nat.{ℕ, _-_}
+use Prim.Native.Nat.{ℕ}
 use mathlib.Core.List.{List, [], _++_, map}
 use lib.ListN.{length, replicate}
 use Rattle.base.specs.Answer.{Answer, accepted, refused, given}
+use Rattle.base.specs.Lists.{padded}
 use Rattle.base.specs.Refusals.{numberOf}
 use Rattle.base.specs.declared.refusal.Refusal.{Refusal}
 use Rattle.base.specs.declared.refusal.Refusal.the-variants.{BytesRunOut}
@@ -48,16 +49,13 @@ resReport s (report.Refused e) = no (numberOf e)
 abbrev pub blankHead : ReportHead
 blankHead = record { offset = 0; length = 0; stateid = replicate 16 0; errors = 0 }
 
--- an array of 8 places, blank past the list
-abbrev pub padded : {A : Type 0} → A → List A → List A
-padded blank xs = xs ++ replicate (8 - length xs) blank
-
+-- the heads, blank past the list
 abbrev pub headsOf : List Report → List ReportHead
-headsOf rs = padded blankHead (map (λ (r : Report). r .head) rs)
+headsOf rs = padded 8 blankHead (map (λ (r : Report). r .head) rs)
 
 -- where the first error of each report stands
 abbrev pub placesOf : List Report → List ℕ
-placesOf rs = padded 0 (map (λ (r : Report). r .errors-at) rs)
+placesOf rs = padded 8 0 (map (λ (r : Report). r .errors-at) rs)
 
 -- a refusal "gives its number, no other result"
 abbrev pub reportsIn : Answer (List Report) → List Report

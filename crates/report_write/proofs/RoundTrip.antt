@@ -9,6 +9,7 @@ use lib.Dec.{eqb, leb}
 use lib.ListN.{length, take, replicate, length-append, length-map, length-take}
 use lib.Seq.{take-at}
 use Rattle.base.specs.Answer.{accepted, given, pick}
+use Rattle.base.specs.Lists.{padded}
 use Rattle.numbers.specs.Numbers.{AllBytes, beBytes, beValue, beFrom, bytesFrom}
 use Rattle.numbers.proofs.NumberLaws.{length-be}
 use Rattle.xdr.specs.Items.{countAt, numAt}
@@ -135,7 +136,7 @@ body-back bs hs es n q b e c w p z =
 -- Writing what was read gives the same bytes.
 pub writing-what-was-read : (bs : List ℕ) (rs : List Report) (room : ℕ) → AllBytes bs → length bs ≤ room → reportBody bs ≡ accepted rs
     → reportsWritten (length rs) (headsOf rs) (recordsIn bs rs) room ≡ accepted bs
-unfolding reportsWritten fitted pick given
+unfolding reportsWritten fitted padded pick given
 writing-what-was-read bs rs room b r h =
     let a = read-all bs rs h in
     let hs = map (λ (x : Report). x .head) rs in

@@ -1,6 +1,7 @@
 -- `report::body::read_arrays` meets its contract. The loop's invariant: there is a list of the reports passed, the arrays hold it, and what is left
 -- decides. The measure is how many are left.
 use Prim.Native.Nat.{_+_, _-_, _≤_}
+use Rattle.base.specs.Lists.{padded}
 use Rattle.report.proofs.ReportLaws.{arrays-done, arrays-next, arrays-refused, heads-next, places-next, stateid-inside}
 use Rattle.report.specs.Answers.{arraysFrom, headFrom, headsOf, placesOf, resReport, whyReport}
 use Rattle.report.specs.Reports.{Report, reportAt}
@@ -28,6 +29,7 @@ blank-head-requires : tie.Need-blank-head-requires Inv-loop μ-loop
 blank-head-requires c κs = search needs
 
 loop-holds : tie.Need-loop-holds Inv-loop μ-loop
+unfolding padded
 loop-holds c = ([], refl, omega arith, refl, c .before .before .pre, rw (c .blank-head .ensures), refl, rw (sub-zero (c .before .before .args .n)))
 
 read-report-requires : tie.Need-read-report-requires Inv-loop μ-loop
