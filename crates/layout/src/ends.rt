@@ -38,7 +38,7 @@ fn unit_fits(unit: u64, servers: u32) -> bool
     1 <= unit
 }
 
-pub fn read_front(s: &[u8], c: Cursor) -> ReadFront
+pub(crate) fn read_front(s: &[u8], c: Cursor) -> ReadFront
     ensures { λ r. ⌜ resFront r ≡ frontAt (now (s .entry)) (c .at) ⌝ }
 {
     let u = xdr::read_u64(s, c);
@@ -66,7 +66,7 @@ pub fn read_front(s: &[u8], c: Cursor) -> ReadFront
     )
 }
 
-pub fn read_tail(s: &[u8], c: Cursor) -> ReadTail
+pub(crate) fn read_tail(s: &[u8], c: Cursor) -> ReadTail
     ensures { λ r. ⌜ resTail r ≡ tailAt (now (s .entry)) (c .at) ⌝ }
 {
     let f = xdr::read_u32(s, c);
@@ -83,7 +83,7 @@ pub fn read_tail(s: &[u8], c: Cursor) -> ReadTail
     ReadTail::Value(Tail { flags, hint }, c2)
 }
 
-pub fn why_front(r: ReadFront) -> Refusal
+pub(crate) fn why_front(r: ReadFront) -> Refusal
     ensures { λ e. ⌜ e ≡ whyFront r ⌝ }
 {
     match r {
@@ -92,7 +92,7 @@ pub fn why_front(r: ReadFront) -> Refusal
     }
 }
 
-pub fn why_tail(r: ReadTail) -> Refusal
+pub(crate) fn why_tail(r: ReadTail) -> Refusal
     ensures { λ e. ⌜ e ≡ whyTail r ⌝ }
 {
     match r {

@@ -33,7 +33,7 @@ pub enum ReadFrame {
     Refused(Refusal),
 }
 
-pub fn read_range(s: &[u8], c: Cursor) -> ReadRange
+pub(crate) fn read_range(s: &[u8], c: Cursor) -> ReadRange
     ensures { λ r. ⌜ resRange r ≡ rangeAt (now (s .entry)) (c .at) ⌝ }
 {
     let o = xdr::read_u64(s, c);
@@ -58,7 +58,7 @@ pub fn read_range(s: &[u8], c: Cursor) -> ReadRange
     )
 }
 
-pub fn read_frame(s: &[u8], c: Cursor) -> ReadFrame
+pub(crate) fn read_frame(s: &[u8], c: Cursor) -> ReadFrame
     ensures { λ r. ⌜ resFrame r ≡ frameAt (now (s .entry)) (c .at) ⌝ }
 {
     let a = read_range(s, c);
@@ -94,7 +94,7 @@ pub fn read_frame(s: &[u8], c: Cursor) -> ReadFrame
     )
 }
 
-pub fn why_range(r: ReadRange) -> Refusal
+pub(crate) fn why_range(r: ReadRange) -> Refusal
     ensures { λ e. ⌜ e ≡ whyRange r ⌝ }
 {
     match r {
@@ -103,7 +103,7 @@ pub fn why_range(r: ReadRange) -> Refusal
     }
 }
 
-pub fn why_frame(r: ReadFrame) -> Refusal
+pub(crate) fn why_frame(r: ReadFrame) -> Refusal
     ensures { λ e. ⌜ e ≡ whyFrame r ⌝ }
 {
     match r {

@@ -60,7 +60,7 @@ pub fn read_error(s: &[u8], c: Cursor) -> ReadError
     ReadError::Value(item, c3)
 }
 
-pub fn why_error(r: ReadError) -> Refusal
+pub(crate) fn why_error(r: ReadError) -> Refusal
     ensures { λ e. ⌜ e ≡ whyError r ⌝ }
 {
     match r {
@@ -70,7 +70,7 @@ pub fn why_error(r: ReadError) -> Refusal
 }
 
 // n errors, one after the other: where they end.
-pub fn read_errors(s: &[u8], c: Cursor, n: u32) -> ReadEnd
+pub(crate) fn read_errors(s: &[u8], c: Cursor, n: u32) -> ReadEnd
     ensures { λ r. ⌜ resEnd r ≡ errorsEnd n (now (s .entry)) (c .at) ⌝ }
 {
     let mut d = c;
@@ -86,7 +86,7 @@ pub fn read_errors(s: &[u8], c: Cursor, n: u32) -> ReadEnd
     ReadEnd::Value(d)
 }
 
-pub fn why_end(r: ReadEnd) -> Refusal
+pub(crate) fn why_end(r: ReadEnd) -> Refusal
     ensures { λ e. ⌜ e ≡ whyEnd r ⌝ }
 {
     match r {

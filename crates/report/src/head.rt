@@ -70,7 +70,7 @@ fn pair_last(offset: u64, len: u64) -> Last
     base::range_last(offset, len)
 }
 
-pub fn read_head(s: &[u8], c: Cursor) -> ReadHead
+pub(crate) fn read_head(s: &[u8], c: Cursor) -> ReadHead
     ensures { λ r. ⌜ resHead (now (s .entry)) r ≡ headAt (now (s .entry)) (c .at) ⌝ }
 {
     let ro = xdr::read_u64(s, c);
@@ -103,7 +103,7 @@ pub fn read_head(s: &[u8], c: Cursor) -> ReadHead
     ReadHead::Value(item, c4)
 }
 
-pub fn read_report(s: &[u8], c: Cursor) -> ReadReport
+pub(crate) fn read_report(s: &[u8], c: Cursor) -> ReadReport
     ensures { λ r. ⌜ resReport (now (s .entry)) r ≡ reportAt (now (s .entry)) (c .at) ⌝ }
 {
     let rh = read_head(s, c);
@@ -119,7 +119,7 @@ pub fn read_report(s: &[u8], c: Cursor) -> ReadReport
     ReadReport::Value(item, first, e)
 }
 
-pub fn why_head(r: ReadHead) -> Refusal
+pub(crate) fn why_head(r: ReadHead) -> Refusal
     ensures { λ e. ⌜ e ≡ whyHead r ⌝ }
 {
     match r {
@@ -128,7 +128,7 @@ pub fn why_head(r: ReadHead) -> Refusal
     }
 }
 
-pub fn why_report(r: ReadReport) -> Refusal
+pub(crate) fn why_report(r: ReadReport) -> Refusal
     ensures { λ e. ⌜ e ≡ whyReport r ⌝ }
 {
     match r {

@@ -20,7 +20,7 @@ pub enum ReadHead {
     Refused(Refusal),
 }
 
-pub fn read_head(s: &[u8], c: Cursor) -> ReadHead
+pub(crate) fn read_head(s: &[u8], c: Cursor) -> ReadHead
     ensures { λ r. ⌜ resHead r ≡ headAt (now (s .entry)) (c .at) ⌝ }
 {
     let d = xdr::read_bytes(s, c, 16);
@@ -50,7 +50,7 @@ pub fn read_head(s: &[u8], c: Cursor) -> ReadHead
     )
 }
 
-pub fn why_head(r: ReadHead) -> Refusal
+pub(crate) fn why_head(r: ReadHead) -> Refusal
     ensures { λ e. ⌜ e ≡ whyHead r ⌝ }
 {
     match r {

@@ -41,7 +41,7 @@ fn is_held_again(named: [bool; 8], store: &[u8], i: u32) -> bool
     is_held_from(named, store, i + 1, body)
 }
 
-pub fn no_two_alike(named: [bool; 8], store: &[u8]) -> bool
+pub(crate) fn no_two_alike(named: [bool; 8], store: &[u8]) -> bool
     ensures { λ r. ⌜ ((t : Table) → named ≡ namedSlots t → r ≡ noTwoAlike (slotsIn t (now (store .entry)))) ⌝ }
 {
     let mut i: u32 = 0;

@@ -96,7 +96,7 @@ fn others_blank(g: Segments) -> bool
     true
 }
 
-pub fn segments_sound(g: Segments) -> bool
+pub(crate) fn segments_sound(g: Segments) -> bool
     ensures { λ r. ⌜ r ≡ segmentsSound g ⌝ }
 {
     if 32 < g.count {

@@ -39,7 +39,7 @@ fn slot_sound(named: bool, slot: &[u8]) -> bool
 }
 
 // `named` says of each slot whether a segment names it.
-pub fn slots_sound(named: [bool; 8], store: &[u8]) -> bool
+pub(crate) fn slots_sound(named: [bool; 8], store: &[u8]) -> bool
     ensures { λ r. ⌜ ((t : Table) → named ≡ namedSlots t → r ≡ slotsSound t (now (store .entry)) 8 0) ⌝ }
 {
     let mut i: u32 = 0;
