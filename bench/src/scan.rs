@@ -33,19 +33,21 @@ pub fn row() -> (Row, String) {
     spoilt[0] = 1;
     let table = raw::empty_table();
     let locate = |store: &[u8]| raw::locate_write(*black_box(&table), store, 0, 1).refusal;
-    assert_eq!((locate(&zeros), locate(&spoilt)), (17, 20));
-    let mut turns = vec![turn(|| locate(&zeros)), turn(|| locate(&spoilt))];
+    let short = &zeros[1..];
+    assert_eq!((locate(&zeros), locate(&spoilt), locate(short)), (17, 20, 20));
+    let mut turns = vec![turn(|| locate(&zeros)), turn(|| locate(&spoilt)), turn(|| locate(short))];
     for (_, form) in FORMS {
         let store = &zeros;
         assert!(form(store));
         turns.push(turn(move || form(black_box(store))));
     }
     let times = shortest(&mut turns.iter_mut().collect::<Vec<_>>());
-    let forms = &times[2..];
+    let forms = &times[3..];
     let fastest = forms.iter().copied().fold(f64::MAX, f64::min);
     let work = "scan of a zero store (a difference, see above)".to_string();
     let row = Row { work, core: times[0] - times[1], plain: forms[0], tuned: Some(fastest), rpcgen: None };
     row.print();
     let said: Vec<String> = FORMS.iter().zip(forms).map(|((name, _), time)| format!("{name} {time:.0} ns")).collect();
-    (row, format!("Forms of the scan in Rust: {}.", said.join("; ")))
+    let crossing = format!("A lookup with a store of another length, which is refused before anything is looked at: {:.0} ns.", times[2]);
+    (row, format!("Forms of the scan in Rust: {}.\n\n{crossing}", said.join("; ")))
 }
