@@ -1,9 +1,9 @@
 // A binding. The payload has: mirror, stripe, supported versions, device id, layout length, layout body, device body.
-use crate::device_case::put_number;
-use crate::line::put_field;
-use crate::line::put_part;
-use crate::line::put_refusal;
-use crate::line::put_text;
+use crate::device_case::say_version_number;
+use crate::say::say;
+use crate::say::say_field;
+use crate::say::say_part;
+use crate::say::say_refused;
 use crate::sixteen::sixteen_at;
 use base::MirrorNumber;
 use base::StripeNumber;
@@ -15,47 +15,52 @@ use device_version::Version;
 const LAYOUT_AT: usize = 32;
 
 // The entry that was chosen.
-fn put_entry(line: &mut [u8], entry: u32, v: Version) -> usize {
-    let a = put_field(line, 0, b"bind entry=", entry as u64);
-    let b = put_text(line, a, b" version=");
-    put_number(line, b, v)
+fn say_entry(entry: u32, v: Version) {
+    say_field(b" entry=", entry as u64);
+    say(b" version=");
+    say_version_number(v);
 }
 
-fn put_bound(line: &mut [u8], b: Bound) -> usize {
+fn say_bound(b: Bound) {
     let version = b.version;
-    let n = put_entry(line, b.entry, version);
-    let m = put_part(line, n, b" filehandle=", b.filehandle);
+    say_entry(b.entry, version);
+    say_part(b" filehandle=", b.filehandle);
     if version.tight {
-        return put_field(line, m, b" stateid=", b.stateid as u64);
+        say_field(b" stateid=", b.stateid as u64);
+        return;
     }
-    let k = put_part(line, m, b" user=", b.user);
-    put_part(line, k, b" group=", b.group)
+    say_part(b" user=", b.user);
+    say_part(b" group=", b.group);
 }
 
-pub(crate) fn put_bind(line: &mut [u8], payload: &[u8]) -> usize {
-    if payload.len() < LAYOUT_AT {
-        return 0;
+fn say_binding(b: Binding) {
+    say(b"bind");
+    match b {
+        Binding::Refused(e) => say_refused(e),
+        Binding::Value(v) => say_bound(v),
     }
-    let size = numbers::le4(payload, 28) as usize;
-    if payload.len() - LAYOUT_AT < size {
-        return 0;
-    }
-    let start = LAYOUT_AT;
-    let end = start + size;
+}
+
+// What a layout body and a device body are bound to.
+fn bind(payload: &[u8], layout: &[u8], device: &[u8]) -> Binding {
     let mirror = MirrorNumber(numbers::le4(payload, 0));
     let stripe = StripeNumber(numbers::le4(payload, 4));
     let supported = numbers::le4(payload, 8);
     let id = sixteen_at(payload, 12);
-    let b = binding::bind(
-        &payload[start..end],
-        mirror,
-        stripe,
-        &payload[end..],
-        &id,
-        supported,
-    );
-    match b {
-        Binding::Refused(e) => put_refusal(line, b"bind", e),
-        Binding::Value(v) => put_bound(line, v),
+    binding::bind(layout, mirror, stripe, device, &id, supported)
+}
+
+pub(crate) fn say_bind(payload: &[u8]) -> bool {
+    if payload.len() < LAYOUT_AT {
+        return false;
     }
+    let size = numbers::le4(payload, 28) as usize;
+    if payload.len() - LAYOUT_AT < size {
+        return false;
+    }
+    let start = LAYOUT_AT;
+    let end = start + size;
+    let b = bind(payload, &payload[start..end], &payload[end..]);
+    say_binding(b);
+    true
 }

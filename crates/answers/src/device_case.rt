@@ -1,83 +1,83 @@
 // A device body.
-use crate::line::put_between;
-use crate::line::put_decimal;
-use crate::line::put_field;
-use crate::line::put_part;
-use crate::line::put_refusal;
-use crate::line::put_text;
+use crate::say::say;
+use crate::say::say_between;
+use crate::say::say_field;
+use crate::say::say_number;
+use crate::say::say_part;
+use crate::say::say_refused;
 use device::DeviceAnswer;
 use device_version::Version;
 use netaddr::Address;
 use netaddr::NetidClass;
 
-fn put_class(line: &mut [u8], at: usize, class: NetidClass) -> usize {
+fn say_class(class: NetidClass) {
     match class {
-        NetidClass::Tcp => put_text(line, at, b"tcp"),
-        NetidClass::Tcp6 => put_text(line, at, b"tcp6"),
-        NetidClass::Udp => put_text(line, at, b"udp"),
-        NetidClass::Udp6 => put_text(line, at, b"udp6"),
-        NetidClass::Rdma => put_text(line, at, b"rdma"),
-        NetidClass::Rdma6 => put_text(line, at, b"rdma6"),
-        NetidClass::Other => put_text(line, at, b"other"),
+        NetidClass::Tcp => say(b"tcp"),
+        NetidClass::Tcp6 => say(b"tcp6"),
+        NetidClass::Udp => say(b"udp"),
+        NetidClass::Udp6 => say(b"udp6"),
+        NetidClass::Rdma => say(b"rdma"),
+        NetidClass::Rdma6 => say(b"rdma6"),
+        NetidClass::Other => say(b"other"),
     }
 }
 
-fn put_addresses(line: &mut [u8], at: usize, addresses: [Address; 8], count: u32) -> usize {
-    let mut n = at;
+fn say_address(a: Address) {
+    let class = a.class;
+    say_class(class);
+    say_part(b":", a.text);
+}
+
+fn say_addresses(addresses: [Address; 8], count: u32) {
     let mut i: usize = 0;
     while i < 8 {
         if count as usize <= i {
-            return n;
+            return;
         }
-        n = put_between(line, n, b",", i);
-        let a = addresses[i];
-        let class = a.class;
-        n = put_class(line, n, class);
-        n = put_part(line, n, b":", a.text);
+        say_between(b",", i);
+        say_address(addresses[i]);
         i += 1;
     }
-    n
 }
 
 // The version and the minor version.
-pub(crate) fn put_number(line: &mut [u8], at: usize, v: Version) -> usize {
-    let n = put_decimal(line, at, v.version as u64);
-    put_field(line, n, b".", v.minor as u64)
+pub(crate) fn say_version_number(v: Version) {
+    say_number(v.version as u64);
+    say_field(b".", v.minor as u64);
 }
 
-fn put_version(line: &mut [u8], at: usize, v: Version) -> usize {
-    let a = put_number(line, at, v);
-    let b = put_field(line, a, b":", v.rsize as u64);
-    let c = put_field(line, b, b":", v.wsize as u64);
-    put_field(line, c, b":", v.tight as u64)
+fn say_version(v: Version) {
+    say_version_number(v);
+    say_field(b":", v.rsize as u64);
+    say_field(b":", v.wsize as u64);
+    say_field(b":", v.tight as u64);
 }
 
-fn put_versions(line: &mut [u8], at: usize, versions: [Version; 8], count: u32) -> usize {
-    let mut n = at;
+fn say_versions(versions: [Version; 8], count: u32) {
     let mut i: usize = 0;
     while i < 8 {
         if count as usize <= i {
-            return n;
+            return;
         }
-        n = put_between(line, n, b",", i);
-        n = put_version(line, n, versions[i]);
+        say_between(b",", i);
+        say_version(versions[i]);
         i += 1;
     }
-    n
 }
 
-pub(crate) fn put_device(line: &mut [u8], payload: &[u8]) -> usize {
+pub(crate) fn say_device(payload: &[u8]) {
     let got = device::read_device(payload);
     let answer = got.answer;
     let addresses = got.addresses;
     let versions = got.versions;
+    say(b"device");
     match answer {
-        DeviceAnswer::Refused(e) => put_refusal(line, b"device", e),
+        DeviceAnswer::Refused(e) => say_refused(e),
         DeviceAnswer::Counts(m, k) => {
-            let a = put_text(line, 0, b"device addresses=");
-            let b = put_addresses(line, a, addresses, m);
-            let c = put_text(line, b, b" versions=");
-            put_versions(line, c, versions, k)
+            say(b" addresses=");
+            say_addresses(addresses, m);
+            say(b" versions=");
+            say_versions(versions, k);
         }
     }
 }

@@ -1,6 +1,6 @@
 // The four events. Each borrows the first bytes of the store.
-use crate::line::put_refused;
-use crate::line::put_text;
+use crate::say::say;
+use crate::say::say_refused;
 use crate::state::State;
 use crate::state::Told;
 use events::Outcome;
@@ -39,12 +39,20 @@ fn has_form(event: Event, payload: &[u8]) -> bool {
     }
 }
 
-fn put_name(line: &mut [u8], event: Event) -> usize {
+fn say_name(event: Event) {
     match event {
-        Event::Grant => put_text(line, 0, b"grant"),
-        Event::Recall => put_text(line, 0, b"recall"),
-        Event::Revoke => put_text(line, 0, b"revoke"),
-        Event::Return => put_text(line, 0, b"return"),
+        Event::Grant => say(b"grant"),
+        Event::Recall => say(b"recall"),
+        Event::Revoke => say(b"revoke"),
+        Event::Return => say(b"return"),
+    }
+}
+
+fn say_verdict(event: Event, v: Verdict) {
+    say_name(event);
+    match v {
+        Verdict::Accepted => say(b" accepted"),
+        Verdict::Refused(e) => say_refused(e),
     }
 }
 
@@ -61,39 +69,25 @@ fn call(event: Event, t: Table, store: &mut [u8], payload: &[u8]) -> Outcome {
     }
 }
 
-fn put_verdict(line: &mut [u8], at: usize, v: Verdict) -> usize {
-    match v {
-        Verdict::Accepted => put_text(line, at, b" accepted"),
-        Verdict::Refused(e) => put_refused(line, at, e),
-    }
-}
-
-pub(crate) fn put_event(
-    line: &mut [u8],
-    event: Event,
-    payload: &[u8],
-    state: State,
-    store: &mut [u8],
-) -> Told {
+pub(crate) fn take_event(event: Event, payload: &[u8], state: State, store: &mut [u8]) -> Told {
     let borrowed = state.borrowed;
     if store.len() < borrowed {
-        return Told { state, length: 0 };
+        return Told { state, told: false };
     }
     if !has_form(event, payload) {
-        return Told { state, length: 0 };
+        return Told { state, told: false };
     }
     let table = state.table;
     let o = call(event, table, &mut store[..borrowed], payload);
     let verdict = o.verdict;
     let left = o.table;
-    let n = put_name(line, event);
-    let m = put_verdict(line, n, verdict);
+    say_verdict(event, verdict);
     let after = State {
         table: left,
         borrowed,
     };
     Told {
         state: after,
-        length: m,
+        told: true,
     }
 }

@@ -4,11 +4,11 @@ mod device_case;
 mod event_case;
 mod layout4_case;
 mod layout_case;
-mod line;
 mod locate_case;
 mod record;
 mod report_read_case;
 mod report_write_case;
+mod say;
 mod sixteen;
 mod spoil_case;
 mod state;
@@ -17,78 +17,69 @@ mod table_case;
 
 use event_case::Kind;
 use libc::STDIN_FILENO;
-use libc::STDOUT_FILENO;
 use record::Head;
 use state::State;
 use state::Told;
 ghost use Prim.Native.Nat.{_≤_};
 
-// The length of the line of a case that keeps nothing.
-fn put_wire_case(line: &mut [u8], kind: u32, payload: &[u8]) -> usize {
+// A body that is read. Any payload has the form.
+fn say_body_case(kind: u32, payload: &[u8]) -> bool {
     match kind {
-        64 => layout_case::put_layout(line, payload),
-        65 => layout4_case::put_layout4(line, payload),
-        66 => device_case::put_device(line, payload),
-        67 => bind_case::put_bind(line, payload),
-        68 => report_read_case::put_report_read(line, payload),
-        69 => report_write_case::put_report_write(line, payload),
-        _ => 0,
+        64 => layout_case::say_layout(payload),
+        65 => layout4_case::say_layout4(payload),
+        66 => device_case::say_device(payload),
+        68 => report_read_case::say_report_read(payload),
+        _ => return false,
+    }
+    true
+}
+
+// A case that keeps nothing.
+fn say_wire_case(kind: u32, payload: &[u8]) -> bool {
+    match kind {
+        67 => bind_case::say_bind(payload),
+        69 => report_write_case::say_report_write(payload),
+        _ => say_body_case(kind, payload),
     }
 }
 
-// The length of the line of a case that leaves the table as it is.
-fn put_other_case(
-    line: &mut [u8],
-    kind: u32,
-    payload: &[u8],
-    state: State,
-    store: &mut [u8],
-) -> usize {
+// A case that leaves the table as it is.
+fn say_other_case(kind: u32, payload: &[u8], state: State, store: &mut [u8]) -> bool {
     let table = state.table;
     match kind {
-        70 => locate_case::put_locate(line, kind, payload, state, store),
-        71 => locate_case::put_locate(line, kind, payload, state, store),
-        72 => table_case::put_table(line, payload, table),
-        73 => store_case::put_store(line, payload, store),
-        74 => spoil_case::set_byte(line, payload, store),
-        _ => put_wire_case(line, kind, payload),
+        70 => locate_case::say_locate(false, payload, state, store),
+        71 => locate_case::say_locate(true, payload, state, store),
+        72 => table_case::say_table(payload, table),
+        73 => store_case::say_store(payload, store),
+        74 => spoil_case::set_byte(payload, store),
+        _ => say_wire_case(kind, payload),
     }
 }
 
-// The length is 0 where the kind is unknown or the payload does not have its form.
-fn put_case(line: &mut [u8], kind: u32, payload: &[u8], state: State, store: &mut [u8]) -> Told {
+// There is no such case where the kind is unknown or the payload does not have its form.
+fn take_case(kind: u32, payload: &[u8], state: State, store: &mut [u8]) -> Told {
     if let Kind::Of(event) = event_case::kind_of(kind) {
-        return event_case::put_event(line, event, payload, state, store);
+        return event_case::take_event(event, payload, state, store);
     }
     match kind {
-        75 => spoil_case::set_segment(line, payload, state),
-        76 => spoil_case::reset(line, payload, state, store),
-        77 => spoil_case::set_borrowed(line, payload, state),
+        75 => spoil_case::set_segment(payload, state),
+        76 => spoil_case::reset(payload, state, store),
+        77 => spoil_case::set_borrowed(payload, state),
         _ => {
-            let n = put_other_case(line, kind, payload, state, store);
-            Told { state, length: n }
+            let told = say_other_case(kind, payload, state, store);
+            Told { state, told }
         }
     }
 }
 
-// Ends the line and writes it.
-fn write_line(line: &mut [u8], at: usize) -> bool {
-    let n = line::put_text(line, at, b"\n");
-    if line.len() < n {
-        return false;
-    }
-    io::write_all(STDOUT_FILENO, &line[..n])
-}
-
 // The run's last line.
-fn finish(line: &mut [u8], name: &[u8], place: u64) {
-    let n = line::put_field(line, 0, name, place);
-    write_line(line, n);
+fn finish(name: &[u8], place: u64) {
+    say::say_field(name, place);
+    say::end_line();
 }
 
 // Reads the payload and puts it to the core. The buffer is as long as a payload may be.
-fn put_record(
-    line: &mut [u8],
+fn take_payload(
     payload: &mut [u8],
     kind: u32,
     length: u32,
@@ -97,12 +88,12 @@ fn put_record(
 ) -> Told {
     let size = length as usize;
     if payload.len() < size {
-        return Told { state, length: 0 };
+        return Told { state, told: false };
     }
     if io::read_full(STDIN_FILENO, &mut payload[..size]) < size {
-        return Told { state, length: 0 };
+        return Told { state, told: false };
     }
-    put_case(line, kind, &payload[..size], state, store)
+    take_case(kind, &payload[..size], state, store)
 }
 
 // What a record leaves, and how long it is; 0 where the run ends with it, as where a line cannot be written.
@@ -111,44 +102,38 @@ struct Taken {
     length: u64,
 }
 
-// Writes the case's line, or the last one where there is no such case: how long the record is.
-fn write_told(line: &mut [u8], told: usize, length: u32, place: u64) -> u64
+// Ends the case's line, or writes the last one where there is no such case: how long the record is.
+fn end_case(told: bool, length: u32, place: u64) -> u64
     ensures { λ r. ⌜ r ≤ 4294967301 ⌝ }
 {
-    if told == 0 {
-        finish(line, b"stop ", place);
+    if !told {
+        finish(b"stop ", place);
         return 0;
     }
-    if !write_line(line, told) {
+    if !say::end_line() {
         return 0;
     }
     record::HEAD + length as u64
 }
 
 // One record, whose first byte is at a place of the file.
-fn take_record(
-    line: &mut [u8],
-    payload: &mut [u8],
-    place: u64,
-    state: State,
-    store: &mut [u8],
-) -> Taken
+fn take_record(payload: &mut [u8], place: u64, state: State, store: &mut [u8]) -> Taken
     ensures { λ r. ⌜ r .length ≤ 4294967301 ⌝ }
 {
     let h = record::read_head();
     match h {
         Head::End => {
-            finish(line, b"end ", place);
+            finish(b"end ", place);
             Taken { state, length: 0 }
         }
         Head::Cut => {
-            finish(line, b"stop ", place);
+            finish(b"stop ", place);
             Taken { state, length: 0 }
         }
         Head::Of(kind, length) => {
-            let t = put_record(line, payload, kind, length, state, store);
+            let t = take_payload(payload, kind, length, state, store);
             let left = t.state;
-            let taken = write_told(line, t.length, length, place);
+            let taken = end_case(t.told, length, place);
             Taken {
                 state: left,
                 length: taken,
@@ -158,15 +143,13 @@ fn take_record(
 }
 
 // A proved loop has to end, and nothing says that a file does. So the place is bounded, by more than any file has.
-// The longest line is that of a report-write, with two digits for each of 4,096 bytes.
 fn main() {
-    let mut line = [0u8; 16384];
     let mut payload = [0u8; 16000];
     let mut store = [0u8; 32768];
     let mut state = state::start();
     let mut place: u64 = 0;
     while place < 9223372036854775808 {
-        let taken = take_record(&mut line, &mut payload, place, state, &mut store);
+        let taken = take_record(&mut payload, place, state, &mut store);
         if taken.length == 0 {
             return;
         }

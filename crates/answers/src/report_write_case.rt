@@ -1,8 +1,8 @@
 // Error reports that are written. The payload has: output length, report count, reports, list length, errors.
-use crate::line::put_field;
-use crate::line::put_hex;
-use crate::line::put_refusal;
-use crate::line::put_text;
+use crate::say::say;
+use crate::say::say_field;
+use crate::say::say_hex;
+use crate::say::say_refused;
 use crate::sixteen::sixteen_at;
 use report::ReportHead;
 use report_write::Written;
@@ -66,49 +66,50 @@ fn put_records(records: &mut [u8], errors: &[u8]) {
     }
 }
 
-fn put_answer(line: &mut [u8], w: Written) -> usize {
+fn say_written(w: Written) {
+    say(b"report-write");
     match w {
-        Written::Length(n) => put_field(line, 0, b"report-write length=", n as u64),
-        Written::Refused(e) => put_refusal(line, b"report-write", e),
+        Written::Length(n) => say_field(b" length=", n as u64),
+        Written::Refused(e) => say_refused(e),
     }
 }
 
 // The answer and the whole output.
-fn put_writing(
-    line: &mut [u8],
+fn say_writing(
     count: u32,
     heads: [ReportHead; 8],
     list_length: usize,
     records: &[u8],
     out: &mut [u8],
-) -> usize {
+) {
     let w = report_write::write_reports(count, heads, list_length, records, out);
-    let a = put_answer(line, w);
-    let b = put_text(line, a, b" output=");
-    put_hex(line, b, out)
+    say_written(w);
+    say(b" output=");
+    say_hex(out);
 }
 
-pub(crate) fn put_report_write(line: &mut [u8], payload: &[u8]) -> usize {
+pub(crate) fn say_report_write(payload: &[u8]) -> bool {
     let size = numbers::le4(payload, 0) as usize;
     if MOST_OUTPUT < size {
-        return 0;
+        return false;
     }
     let count = numbers::le4(payload, 4);
     let at = list_at(count);
     let from = at + 4;
     if payload.len() < from {
-        return 0;
+        return false;
     }
     let list_length = numbers::le4(payload, at) as usize;
     if MOST_ERRORS < list_length {
-        return 0;
+        return false;
     }
     if payload.len() - from != 24 * list_length {
-        return 0;
+        return false;
     }
     let heads = heads_of(payload, count);
     let mut records = [0u8; 3072];
     put_records(&mut records, &payload[from..]);
     let mut out = [165u8; 4096];
-    put_writing(line, count, heads, list_length, &records, &mut out[..size])
+    say_writing(count, heads, list_length, &records, &mut out[..size]);
+    true
 }

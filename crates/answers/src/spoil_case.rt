@@ -1,5 +1,5 @@
 // The cases that spoil the table and the store, and bring them back.
-use crate::line::put_text;
+use crate::say::say;
 use crate::state::State;
 use crate::state::Told;
 use crate::state::start;
@@ -10,16 +10,17 @@ use segments::Segments;
 use segments::Table;
 
 // The payload has: place, value.
-pub(crate) fn set_byte(line: &mut [u8], payload: &[u8], store: &mut [u8]) -> usize {
+pub(crate) fn set_byte(payload: &[u8], store: &mut [u8]) -> bool {
     if payload.len() != 5 {
-        return 0;
+        return false;
     }
     let place = numbers::le4(payload, 0) as usize;
     if store.len() <= place {
-        return 0;
+        return false;
     }
     store[place] = payload[4];
-    put_text(line, 0, b"set-byte done")
+    say(b"set-byte done");
+    true
 }
 
 fn right_of(right: u32, slot: u32) -> Right {
@@ -109,51 +110,51 @@ fn with_segment(t: Table, iomode: u32, place: usize, s: Segment) -> Table {
     }
 }
 
-pub(crate) fn set_segment(line: &mut [u8], payload: &[u8], state: State) -> Told {
+pub(crate) fn set_segment(payload: &[u8], state: State) -> Told {
     if !has_form(payload) {
-        return Told { state, length: 0 };
+        return Told { state, told: false };
     }
     let iomode = numbers::le4(payload, 0);
     let place = numbers::le4(payload, 4) as usize;
     let before = state.table;
     let table = with_segment(before, iomode, place, segment_of(payload));
-    let n = put_text(line, 0, b"set-segment done");
+    say(b"set-segment done");
     let after = State {
         table,
         borrowed: state.borrowed,
     };
     Told {
         state: after,
-        length: n,
+        told: true,
     }
 }
 
-pub(crate) fn reset(line: &mut [u8], payload: &[u8], state: State, store: &mut [u8]) -> Told {
+pub(crate) fn reset(payload: &[u8], state: State, store: &mut [u8]) -> Told {
     if payload.len() != 0 {
-        return Told { state, length: 0 };
+        return Told { state, told: false };
     }
     let size = store.len();
     buffers::put_zeros(store, 0, size);
-    let n = put_text(line, 0, b"reset done");
+    say(b"reset done");
     Told {
         state: start(),
-        length: n,
+        told: true,
     }
 }
 
-pub(crate) fn set_borrowed(line: &mut [u8], payload: &[u8], state: State) -> Told {
+pub(crate) fn set_borrowed(payload: &[u8], state: State) -> Told {
     if payload.len() != 4 {
-        return Told { state, length: 0 };
+        return Told { state, told: false };
     }
     let borrowed = numbers::le4(payload, 0) as usize;
     if 32768 < borrowed {
-        return Told { state, length: 0 };
+        return Told { state, told: false };
     }
     let table = state.table;
-    let n = put_text(line, 0, b"lend done");
+    say(b"lend done");
     let after = State { table, borrowed };
     Told {
         state: after,
-        length: n,
+        told: true,
     }
 }

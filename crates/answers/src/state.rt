@@ -7,10 +7,10 @@ pub struct State {
     pub borrowed: usize,
 }
 
-// What a case leaves, and the length of its line; 0 where there is no such case.
+// What a case leaves, and whether there was such a case. If so, its line is written but for the end; if not, nothing is.
 pub struct Told {
     pub state: State,
-    pub length: usize,
+    pub told: bool,
 }
 
 pub(crate) fn start() -> State {

@@ -1,6 +1,6 @@
 // The body store: for each slot the length that it says, and a checksum of its bytes.
-use crate::line::put_field;
-use crate::line::put_text;
+use crate::say::say;
+use crate::say::say_field;
 use base::SlotNumber;
 ghost use Prim.Native.Nat.{_<_};
 
@@ -23,21 +23,21 @@ fn checksum(s: &[u8]) -> u64 {
     c
 }
 
-fn put_slot(line: &mut [u8], at: usize, store: &[u8], i: u32) -> usize {
+fn say_slot(store: &[u8], i: u32) {
     let slot = store::slot_bytes(store, SlotNumber(i));
-    let n = put_field(line, at, b" ", numbers::le4(slot, 0) as u64);
-    put_field(line, n, b":", checksum(slot))
+    say_field(b" ", numbers::le4(slot, 0) as u64);
+    say_field(b":", checksum(slot));
 }
 
-pub(crate) fn put_store(line: &mut [u8], payload: &[u8], store: &[u8]) -> usize {
+pub(crate) fn say_store(payload: &[u8], store: &[u8]) -> bool {
     if payload.len() != 0 {
-        return 0;
+        return false;
     }
-    let mut n = put_text(line, 0, b"shelf");
+    say(b"shelf");
     let mut i: u32 = 0;
     while i < 8 {
-        n = put_slot(line, n, store, i);
+        say_slot(store, i);
         i += 1;
     }
-    n
+    true
 }

@@ -7,10 +7,10 @@ use Rattle.answers.proofs.main.Statement.{statement}
 use Rattle.answers.proofs.main.Tie as tie
 
 abbrev Inv-loop : tie.InvT-loop
-Inv-loop line₀ payload₀ store₀ state₀ place₀ line payload store state place = (length line ≡ 16384) × (length payload ≡ 16000) × (length store ≡ 32768)
+Inv-loop payload₀ store₀ state₀ place₀ payload store state place = (length payload ≡ 16000) × (length store ≡ 32768)
 
 abbrev μ-loop : tie.MeasureT-loop
-μ-loop line₀ payload₀ store₀ state₀ place₀ line payload store state place = 9223372036854775808 - place
+μ-loop payload₀ store₀ state₀ place₀ payload store state place = 9223372036854775808 - place
 
 start-requires : tie.Need-start-requires Inv-loop μ-loop
 start-requires c κs = search needs
@@ -23,9 +23,6 @@ slice-aggregate-take-record c = search needs
 
 slice-aggregate-take-record-2 : tie.Need-slice-aggregate-take-record-2 Inv-loop μ-loop
 slice-aggregate-take-record-2 c = search needs
-
-slice-aggregate-take-record-3 : tie.Need-slice-aggregate-take-record-3 Inv-loop μ-loop
-slice-aggregate-take-record-3 c = search needs
 
 take-record-requires : tie.Need-take-record-requires Inv-loop μ-loop
 take-record-requires c κs = search needs
@@ -55,7 +52,6 @@ main-spec =
     loop-holds
     slice-aggregate-take-record
     slice-aggregate-take-record-2
-    slice-aggregate-take-record-3
     take-record-requires
     returns
     add-place

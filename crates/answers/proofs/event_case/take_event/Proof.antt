@@ -1,9 +1,9 @@
--- `answers::event_case::put_event` is safe and ends. What is borrowed lies within the store.
+-- `answers::event_case::take_event` is safe and ends. What is borrowed lies within the store.
 use borrow.Author.Needs.{needs}
 use lib.ListN.{length-take}
 use native.Mathlib.Omega.{arith}
-use Rattle.answers.proofs.event_case.put_event.Statement.{statement}
-use Rattle.answers.proofs.event_case.put_event.Tie as tie
+use Rattle.answers.proofs.event_case.take_event.Statement.{statement}
+use Rattle.answers.proofs.event_case.take_event.Tie as tie
 
 returns : tie.Need-returns
 returns c = search needs
@@ -23,23 +23,17 @@ slice-aggregate-call c = simp length-take (omega arith)
 call-requires : tie.Need-call-requires
 call-requires c κs = search needs
 
-put-name-requires : tie.Need-put-name-requires
-put-name-requires c κs = search needs
-
-put-verdict-requires : tie.Need-put-verdict-requires
-put-verdict-requires c κs = search needs
+say-verdict-requires : tie.Need-say-verdict-requires
+say-verdict-requires c κs = search needs
 
 same-length : tie.Need-same-length
 same-length c = search needs
 
-same-length-2 : tie.Need-same-length-2
-same-length-2 c = search needs
-
 returns-3 : tie.Need-returns-3
 returns-3 c = search needs
 
-pub put-event-spec : {M : Type 1} → statement M
-put-event-spec =
+pub take-event-spec : {M : Type 1} → statement M
+take-event-spec =
     tie.close
     (tie.spec
     returns
@@ -48,8 +42,6 @@ put-event-spec =
     slice-relend-prefix-call
     slice-aggregate-call
     call-requires
-    put-name-requires
-    put-verdict-requires
+    say-verdict-requires
     same-length
-    same-length-2
     returns-3)

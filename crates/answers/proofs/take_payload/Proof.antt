@@ -1,9 +1,9 @@
--- `answers::put_record` is safe and ends. The payload is read into a part of the buffer.
+-- `answers::take_payload` is safe and ends. The payload is read into a part of the buffer.
 use borrow.Author.Needs.{needs}
 use lib.ListN.{length-take}
 use native.Mathlib.Omega.{arith}
-use Rattle.answers.proofs.put_record.Statement.{statement}
-use Rattle.answers.proofs.put_record.Tie as tie
+use Rattle.answers.proofs.take_payload.Statement.{statement}
+use Rattle.answers.proofs.take_payload.Tie as tie
 
 returns : tie.Need-returns
 returns c = search needs
@@ -23,14 +23,14 @@ same-length c = search needs
 returns-2 : tie.Need-returns-2
 returns-2 c = search needs
 
-slice-reshare-prefix-put-case : tie.Need-slice-reshare-prefix-put-case
-slice-reshare-prefix-put-case c = search needs
+slice-reshare-prefix-take-case : tie.Need-slice-reshare-prefix-take-case
+slice-reshare-prefix-take-case c = search needs
 
-slice-aggregate-put-case : tie.Need-slice-aggregate-put-case
-slice-aggregate-put-case c = simp length-take (omega arith)
+slice-aggregate-take-case : tie.Need-slice-aggregate-take-case
+slice-aggregate-take-case c = simp length-take (omega arith)
 
-put-case-requires : tie.Need-put-case-requires
-put-case-requires c κs = search needs
+take-case-requires : tie.Need-take-case-requires
+take-case-requires c κs = search needs
 
 same-length-2 : tie.Need-same-length-2
 same-length-2 c = search needs
@@ -38,14 +38,11 @@ same-length-2 c = search needs
 same-length-3 : tie.Need-same-length-3
 same-length-3 c = search needs
 
-same-length-4 : tie.Need-same-length-4
-same-length-4 c = search needs
-
 returns-3 : tie.Need-returns-3
 returns-3 c = search needs
 
-pub put-record-spec : {M : Type 1} → statement M
-put-record-spec =
+pub take-payload-spec : {M : Type 1} → statement M
+take-payload-spec =
     tie.close
     (tie.spec
     returns
@@ -54,10 +51,9 @@ put-record-spec =
     read-full-requires
     same-length
     returns-2
-    slice-reshare-prefix-put-case
-    slice-aggregate-put-case
-    put-case-requires
+    slice-reshare-prefix-take-case
+    slice-aggregate-take-case
+    take-case-requires
     same-length-2
     same-length-3
-    same-length-4
     returns-3)

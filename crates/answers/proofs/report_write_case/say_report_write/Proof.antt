@@ -1,9 +1,9 @@
--- `answers::report_write_case::put_report_write` is safe and ends. The output is a part of the buffer.
+-- `answers::report_write_case::say_report_write` is safe and ends. The output is a part of the buffer.
 use borrow.Author.Needs.{needs}
 use lib.ListN.{length-take}
 use native.Mathlib.Omega.{arith}
-use Rattle.answers.proofs.report_write_case.put_report_write.Statement.{statement}
-use Rattle.answers.proofs.report_write_case.put_report_write.Tie as tie
+use Rattle.answers.proofs.report_write_case.say_report_write.Statement.{statement}
+use Rattle.answers.proofs.report_write_case.say_report_write.Tie as tie
 
 le4-requires : tie.Need-le4-requires
 le4-requires c κs = search needs
@@ -62,26 +62,23 @@ part-put-records-end c = search needs
 put-records-requires : tie.Need-put-records-requires
 put-records-requires c κs = search needs
 
-slice-aggregate-put-writing : tie.Need-slice-aggregate-put-writing
-slice-aggregate-put-writing c = search needs
+slice-aggregate-say-writing : tie.Need-slice-aggregate-say-writing
+slice-aggregate-say-writing c = search needs
 
 array-borrow-prefix-out : tie.Need-array-borrow-prefix-out
 array-borrow-prefix-out c = search needs
 
-slice-aggregate-put-writing-2 : tie.Need-slice-aggregate-put-writing-2
-slice-aggregate-put-writing-2 c = simp length-take (omega arith)
+slice-aggregate-say-writing-2 : tie.Need-slice-aggregate-say-writing-2
+slice-aggregate-say-writing-2 c = simp length-take (omega arith)
 
-put-writing-requires : tie.Need-put-writing-requires
-put-writing-requires c κs = search needs
-
-same-length : tie.Need-same-length
-same-length c = search needs
+say-writing-requires : tie.Need-say-writing-requires
+say-writing-requires c κs = search needs
 
 returns-5 : tie.Need-returns-5
 returns-5 c = search needs
 
-pub put-report-write-spec : {M : Type 1} → statement M
-put-report-write-spec =
+pub say-report-write-spec : {M : Type 1} → statement M
+say-report-write-spec =
     tie.close
     (tie.spec
     le4-requires
@@ -103,9 +100,8 @@ put-report-write-spec =
     part-put-records-start
     part-put-records-end
     put-records-requires
-    slice-aggregate-put-writing
+    slice-aggregate-say-writing
     array-borrow-prefix-out
-    slice-aggregate-put-writing-2
-    put-writing-requires
-    same-length
+    slice-aggregate-say-writing-2
+    say-writing-requires
     returns-5)

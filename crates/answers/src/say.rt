@@ -1,0 +1,59 @@
+// Words and numbers, to standard output.
+use base::Refusal;
+use libc::STDOUT_FILENO;
+use xdr::Part;
+
+pub(crate) fn say(text: &[u8]) {
+    io::write_all(STDOUT_FILENO, text);
+}
+
+// Whether the line's end could be written.
+pub(crate) fn end_line() -> bool {
+    io::write_all(STDOUT_FILENO, b"\n")
+}
+
+// What stands between the members of a list, before member i.
+pub(crate) fn say_between(text: &[u8], i: usize) {
+    if i != 0 {
+        say(text);
+    }
+}
+
+pub(crate) fn say_number(v: u64) {
+    io::print_decimal(STDOUT_FILENO, v);
+}
+
+// A number behind its name.
+pub(crate) fn say_field(name: &[u8], v: u64) {
+    say(name);
+    say_number(v);
+}
+
+// Where bytes stand and how many they are, behind a name.
+pub(crate) fn say_part(name: &[u8], p: Part) {
+    say_field(name, p.start as u64);
+    say_field(b"+", p.len as u64);
+}
+
+fn wide(x: u8) -> u64 {
+    x as u64
+}
+
+// Each byte as two digits, eight bytes at a time while there are as many.
+pub(crate) fn say_hex(bytes: &[u8]) {
+    let mut i: usize = 0;
+    while i < bytes.len() {
+        if bytes.len() - i < 8 {
+            io::print_hex(STDOUT_FILENO, wide(bytes[i]), 2);
+            i += 1;
+        } else {
+            io::print_hex(STDOUT_FILENO, numbers::be8(bytes, i), 16);
+            i += 8;
+        }
+    }
+}
+
+// A refusal, behind the case's name.
+pub(crate) fn say_refused(e: Refusal) {
+    say_field(b" refused ", base::number(e) as u64);
+}
