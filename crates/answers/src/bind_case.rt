@@ -1,36 +1,51 @@
 // A binding. The payload has: mirror, stripe, supported versions, device id, layout length, layout body, device body.
-use crate::device_case::say_version_number;
 use crate::say::say;
 use crate::say::say_field;
-use crate::say::say_part;
+use crate::say::say_fields;
 use crate::say::say_refused;
 use crate::sixteen::sixteen_at;
 use base::MirrorNumber;
 use base::StripeNumber;
 use binding::Binding;
 use binding::Bound;
-use device_version::Version;
 
 // Where the layout body stands.
 const LAYOUT_AT: usize = 32;
 
-// The entry that was chosen.
-fn say_entry(entry: u32, v: Version) {
-    say_field(b" entry=", entry as u64);
-    say(b" version=");
-    say_version_number(v);
+// The entry that was chosen, and the filehandle.
+fn say_entry(b: Bound) {
+    let v = b.version;
+    let f = b.filehandle;
+    let values = [
+        b.entry as u64,
+        v.version as u64,
+        v.minor as u64,
+        f.start as u64,
+        f.len as u64,
+    ];
+    say_fields(b" entry=# version=#.# filehandle=#+#", &values);
+}
+
+fn say_names(b: Bound) {
+    let user = b.user;
+    let group = b.group;
+    let values = [
+        user.start as u64,
+        user.len as u64,
+        group.start as u64,
+        group.len as u64,
+    ];
+    say_fields(b" user=#+# group=#+#", &values);
 }
 
 fn say_bound(b: Bound) {
     let version = b.version;
-    say_entry(b.entry, version);
-    say_part(b" filehandle=", b.filehandle);
+    say_entry(b);
     if version.tight {
         say_field(b" stateid=", b.stateid as u64);
         return;
     }
-    say_part(b" user=", b.user);
-    say_part(b" group=", b.group);
+    say_names(b);
 }
 
 fn say_binding(b: Binding) {
@@ -50,17 +65,13 @@ fn bind(payload: &[u8], layout: &[u8], device: &[u8]) -> Binding {
     binding::bind(layout, mirror, stripe, device, &id, supported)
 }
 
-pub(crate) fn say_bind(payload: &[u8]) -> bool {
-    if payload.len() < LAYOUT_AT {
-        return false;
-    }
+pub(crate) fn say_bind(payload: &[u8]) {
     let size = numbers::le4(payload, 28) as usize;
-    if payload.len() - LAYOUT_AT < size {
-        return false;
-    }
     let start = LAYOUT_AT;
     let end = start + size;
+    if payload.len() < end {
+        return;
+    }
     let b = bind(payload, &payload[start..end], &payload[end..]);
     say_binding(b);
-    true
 }

@@ -1,31 +1,38 @@
 // A device body.
 use crate::say::say;
 use crate::say::say_between;
-use crate::say::say_field;
-use crate::say::say_number;
-use crate::say::say_part;
+use crate::say::say_fields;
 use crate::say::say_refused;
 use device::DeviceAnswer;
 use device_version::Version;
 use netaddr::Address;
 use netaddr::NetidClass;
 
+fn is_of_six(class: NetidClass) -> bool {
+    match class {
+        NetidClass::Tcp6 | NetidClass::Udp6 | NetidClass::Rdma6 => true,
+        _ => false,
+    }
+}
+
 fn say_class(class: NetidClass) {
     match class {
-        NetidClass::Tcp => say(b"tcp"),
-        NetidClass::Tcp6 => say(b"tcp6"),
-        NetidClass::Udp => say(b"udp"),
-        NetidClass::Udp6 => say(b"udp6"),
-        NetidClass::Rdma => say(b"rdma"),
-        NetidClass::Rdma6 => say(b"rdma6"),
+        NetidClass::Tcp | NetidClass::Tcp6 => say(b"tcp"),
+        NetidClass::Udp | NetidClass::Udp6 => say(b"udp"),
+        NetidClass::Rdma | NetidClass::Rdma6 => say(b"rdma"),
         NetidClass::Other => say(b"other"),
     }
 }
 
 fn say_address(a: Address) {
     let class = a.class;
+    let text = a.text;
     say_class(class);
-    say_part(b":", a.text);
+    if is_of_six(class) {
+        say(b"6");
+    }
+    let values = [text.start as u64, text.len as u64];
+    say_fields(b":#+#", &values);
 }
 
 fn say_addresses(addresses: [Address; 8], count: u32) {
@@ -40,17 +47,15 @@ fn say_addresses(addresses: [Address; 8], count: u32) {
     }
 }
 
-// The version and the minor version.
-pub(crate) fn say_version_number(v: Version) {
-    say_number(v.version as u64);
-    say_field(b".", v.minor as u64);
-}
-
 fn say_version(v: Version) {
-    say_version_number(v);
-    say_field(b":", v.rsize as u64);
-    say_field(b":", v.wsize as u64);
-    say_field(b":", v.tight as u64);
+    let values = [
+        v.version as u64,
+        v.minor as u64,
+        v.rsize as u64,
+        v.wsize as u64,
+        v.tight as u64,
+    ];
+    say_fields(b"#.#:#:#:#", &values);
 }
 
 fn say_versions(versions: [Version; 8], count: u32) {

@@ -2,92 +2,58 @@
 use crate::say::say;
 use crate::say::say_refused;
 use crate::state::State;
-use crate::state::Told;
 use events::Outcome;
 use events::Verdict;
 use segments::Table;
 
-pub enum Event {
-    Grant,
-    Recall,
-    Revoke,
-    Return,
-}
-
-// Whether a kind of case is an event.
-pub enum Kind {
-    Of(Event),
-    Other,
-}
-
-pub(crate) fn kind_of(kind: u32) -> Kind {
+fn say_name(kind: u32) {
     match kind {
-        1 => Kind::Of(Event::Grant),
-        4 => Kind::Of(Event::Recall),
-        5 => Kind::Of(Event::Revoke),
-        9 => Kind::Of(Event::Return),
-        _ => Kind::Other,
+        1 => say(b"grant"),
+        4 => say(b"recall"),
+        5 => say(b"revoke"),
+        _ => say(b"return"),
     }
 }
 
-fn has_form(event: Event, payload: &[u8]) -> bool {
-    match event {
-        Event::Grant => true,
-        Event::Recall => payload.len() == 20,
-        Event::Revoke => payload.len() == 0,
-        Event::Return => payload.len() == 20,
-    }
-}
-
-fn say_name(event: Event) {
-    match event {
-        Event::Grant => say(b"grant"),
-        Event::Recall => say(b"recall"),
-        Event::Revoke => say(b"revoke"),
-        Event::Return => say(b"return"),
-    }
-}
-
-fn say_verdict(event: Event, v: Verdict) {
-    say_name(event);
+fn say_verdict(kind: u32, v: Verdict) {
+    say_name(kind);
     match v {
         Verdict::Accepted => say(b" accepted"),
         Verdict::Refused(e) => say_refused(e),
     }
 }
 
-// The payload of a recall and a return has: offset, length, iomode.
-fn call(event: Event, t: Table, store: &mut [u8], payload: &[u8]) -> Outcome {
+// A recall or a return. The payload has: offset, length, iomode.
+fn call_of_range(kind: u32, t: Table, store: &mut [u8], payload: &[u8]) -> Outcome {
     let offset = numbers::le8(payload, 0);
     let length = numbers::le8(payload, 8);
     let iomode = numbers::le4(payload, 16);
-    match event {
-        Event::Grant => events::grant(t, store, payload),
-        Event::Recall => events::recall(t, store, offset, length, iomode),
-        Event::Revoke => events::revoke(t, store),
-        Event::Return => events::layout_return(t, store, offset, length, iomode),
+    if kind == 4 {
+        return events::recall(t, store, offset, length, iomode);
+    }
+    events::layout_return(t, store, offset, length, iomode)
+}
+
+fn call(kind: u32, t: Table, store: &mut [u8], payload: &[u8]) -> Outcome {
+    match kind {
+        1 => events::grant(t, store, payload),
+        5 => events::revoke(t, store),
+        _ => call_of_range(kind, t, store, payload),
     }
 }
 
-pub(crate) fn take_event(event: Event, payload: &[u8], state: State, store: &mut [u8]) -> Told {
+pub(crate) fn take_event(kind: u32, payload: &[u8], state: State, store: &mut [u8]) -> State {
     let borrowed = state.borrowed;
     if store.len() < borrowed {
-        return Told { state, told: false };
-    }
-    if !has_form(event, payload) {
-        return Told { state, told: false };
+        return state;
     }
     let table = state.table;
-    let o = call(event, table, &mut store[..borrowed], payload);
+    let o = call(kind, table, &mut store[..borrowed], payload);
     let verdict = o.verdict;
     let left = o.table;
-    say_verdict(event, verdict);
-    let after = State {
+    say_verdict(kind, verdict);
+    State {
         table: left,
         borrowed,
-    };
-    Told {
-        state: after,
-        told: true,
     }
 }

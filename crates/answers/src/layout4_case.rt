@@ -1,7 +1,7 @@
 // A layout4.
 use crate::layout_case::say_summary;
 use crate::say::say;
-use crate::say::say_field;
+use crate::say::say_fields;
 use crate::say::say_refused;
 use layout4::Layout4;
 use layout4::Layout4Answer;
@@ -10,10 +10,9 @@ use layout4::Layout4Answer;
 fn say_frame(l: Layout4) {
     let iomode = l.iomode;
     let body = l.body;
-    say_field(b" offset=", l.offset);
-    say_field(b" length=", l.length);
-    say_field(b" iomode=", base::iomode_number(iomode) as u64);
-    say_field(b" body=", body.len as u64);
+    let iomode_number = base::iomode_number(iomode);
+    let values = [l.offset, l.length, iomode_number as u64, body.len as u64];
+    say_fields(b" offset=# length=# iomode=# body=#", &values);
 }
 
 pub(crate) fn say_layout4(payload: &[u8]) {

@@ -1,7 +1,7 @@
 // A layout body.
 use crate::say::say;
 use crate::say::say_between;
-use crate::say::say_field;
+use crate::say::say_fields;
 use crate::say::say_number;
 use crate::say::say_refused;
 use layout::LayoutAnswer;
@@ -22,11 +22,14 @@ fn say_starts(starts: [u16; 128]) {
 }
 
 pub(crate) fn say_summary(s: Summary, starts: [u16; 128]) {
-    say_field(b" unit=", s.unit);
-    say_field(b" mirrors=", s.mirrors as u64);
-    say_field(b" servers=", s.servers as u64);
-    say_field(b" flags=", s.flags as u64);
-    say_field(b" hint=", s.hint as u64);
+    let values = [
+        s.unit,
+        s.mirrors as u64,
+        s.servers as u64,
+        s.flags as u64,
+        s.hint as u64,
+    ];
+    say_fields(b" unit=# mirrors=# servers=# flags=# hint=#", &values);
     say_starts(starts);
 }
 

@@ -1,27 +1,47 @@
-// What stands before a payload in the case file: its length and its kind.
+// The records of the case file: payload length, kind, payload.
+use crate::form::has_form;
 use libc::STDIN_FILENO;
 
-pub enum Head {
+pub enum Record {
     // The file ends where a record would begin.
     End,
-    // The file's end cuts the record.
-    Cut,
+    // The file's end cuts the record, or its payload is too long or does not have its kind's form.
+    Stop,
     // The kind, and the payload's length.
     Of(u32, u32),
 }
 
-// The bytes of a head.
+// The bytes before the payload.
 pub const HEAD: u64 = 6;
 
-pub(crate) fn read_head() -> Head {
+fn read_head() -> Record {
     let mut head = [0u8; 6];
     let got = io::read_full(STDIN_FILENO, &mut head);
     if got == 0 {
-        return Head::End;
+        return Record::End;
     }
     if got < 6 {
-        return Head::Cut;
+        return Record::Stop;
     }
     // The kind is the last two of the four bytes from place 2 on.
-    Head::Of(numbers::le4(&head, 2) / 65536, numbers::le4(&head, 0))
+    Record::Of(numbers::le4(&head, 2) / 65536, numbers::le4(&head, 0))
+}
+
+// The payload goes to the front of a buffer that is as long as a payload may be.
+pub(crate) fn read_record(payload: &mut [u8]) -> Record {
+    let r = read_head();
+    let Record::Of(kind, length) = r else {
+        return r;
+    };
+    let size = length as usize;
+    if payload.len() < size {
+        return Record::Stop;
+    }
+    if io::read_full(STDIN_FILENO, &mut payload[..size]) < size {
+        return Record::Stop;
+    }
+    if has_form(kind, &payload[..size]) {
+        return r;
+    }
+    Record::Stop
 }

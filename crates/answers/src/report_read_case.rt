@@ -2,6 +2,7 @@
 use crate::say::say;
 use crate::say::say_between;
 use crate::say::say_field;
+use crate::say::say_fields;
 use crate::say::say_hex;
 use crate::say::say_refused;
 use crate::sixteen::sixteen_at;
@@ -14,8 +15,8 @@ use xdr::Cursor;
 fn say_error(payload: &[u8], e: ErrorItem) {
     let device = sixteen_at(payload, e.device);
     say_hex(&device);
-    say_field(b"/", e.status as u64);
-    say_field(b"/", e.operation as u64);
+    let values = [e.status as u64, e.operation as u64];
+    say_fields(b"/#/#", &values);
 }
 
 fn say_errors(payload: &[u8], first: usize, count: u32) {
@@ -34,8 +35,8 @@ fn say_errors(payload: &[u8], first: usize, count: u32) {
 
 fn say_head(head: ReportHead) {
     let stateid = head.stateid;
-    say_field(b" offset=", head.offset);
-    say_field(b",length=", head.length);
+    let values = [head.offset, head.length];
+    say_fields(b" offset=#,length=#", &values);
     say(b",stateid=");
     say_hex(&stateid);
 }

@@ -1,4 +1,5 @@
 // Error reports that are written. The payload has: output length, report count, reports, list length, errors.
+use crate::form::list_at;
 use crate::say::say;
 use crate::say::say_field;
 use crate::say::say_hex;
@@ -6,23 +7,6 @@ use crate::say::say_refused;
 use crate::sixteen::sixteen_at;
 use report::ReportHead;
 use report_write::Written;
-ghost use Prim.Native.Nat.{_≤_};
-
-// The longest output.
-const MOST_OUTPUT: usize = 4096;
-
-// The longest error list.
-const MOST_ERRORS: usize = 128;
-
-// Where the list length stands. A payload has at most 8 reports, whatever their count says.
-fn list_at(count: u32) -> usize
-    ensures { λ r. ⌜ r ≤ 296 ⌝ }
-{
-    if 8 < count {
-        return 296;
-    }
-    8 + 36 * (count as usize)
-}
 
 fn head_of(r: &[u8]) -> ReportHead {
     let stateid = sixteen_at(r, 16);
@@ -75,41 +59,32 @@ fn say_written(w: Written) {
 }
 
 // The answer and the whole output.
-fn say_writing(
-    count: u32,
-    heads: [ReportHead; 8],
-    list_length: usize,
-    records: &[u8],
-    out: &mut [u8],
-) {
-    let w = report_write::write_reports(count, heads, list_length, records, out);
+fn say_output(count: u32, heads: [ReportHead; 8], errors: usize, records: &[u8], out: &mut [u8]) {
+    let w = report_write::write_reports(count, heads, errors, records, out);
     say_written(w);
     say(b" output=");
     say_hex(out);
 }
 
-pub(crate) fn say_report_write(payload: &[u8]) -> bool {
+fn say_writing(payload: &[u8], count: u32, errors: usize, records: &[u8]) {
     let size = numbers::le4(payload, 0) as usize;
-    if MOST_OUTPUT < size {
-        return false;
+    let mut out = [165u8; 4096];
+    if out.len() < size {
+        return;
     }
+    let heads = heads_of(payload, count);
+    say_output(count, heads, errors, records, &mut out[..size]);
+}
+
+pub(crate) fn say_report_write(payload: &[u8]) {
     let count = numbers::le4(payload, 4);
     let at = list_at(count);
     let from = at + 4;
     if payload.len() < from {
-        return false;
+        return;
     }
-    let list_length = numbers::le4(payload, at) as usize;
-    if MOST_ERRORS < list_length {
-        return false;
-    }
-    if payload.len() - from != 24 * list_length {
-        return false;
-    }
-    let heads = heads_of(payload, count);
     let mut records = [0u8; 3072];
     put_records(&mut records, &payload[from..]);
-    let mut out = [165u8; 4096];
-    say_writing(count, heads, list_length, &records, &mut out[..size]);
-    true
+    let errors = numbers::le4(payload, at) as usize;
+    say_writing(payload, count, errors, &records);
 }

@@ -1,7 +1,8 @@
 // Words and numbers, to standard output.
 use base::Refusal;
 use libc::STDOUT_FILENO;
-use xdr::Part;
+ghost use Prim.Native.Nat.{_≤_};
+ghost use lib.ListN.{length};
 
 pub(crate) fn say(text: &[u8]) {
     io::write_all(STDOUT_FILENO, text);
@@ -29,10 +30,33 @@ pub(crate) fn say_field(name: &[u8], v: u64) {
     say_number(v);
 }
 
-// Where bytes stand and how many they are, behind a name.
-pub(crate) fn say_part(name: &[u8], p: Part) {
-    say_field(name, p.start as u64);
-    say_field(b"+", p.len as u64);
+// Where the next '#' of a text stands, from a place on; its end where there is none.
+fn mark_from(text: &[u8], from: usize) -> usize
+    ensures { λ r. ⌜ r ≤ length (now (text .entry)) ⌝ }
+{
+    let mut i = from;
+    while i < text.len() {
+        if text[i] == b'#' {
+            return i;
+        }
+        i += 1;
+    }
+    text.len()
+}
+
+// A text that has a '#' for each of some numbers, and nothing behind the last.
+pub(crate) fn say_fields(text: &[u8], values: &[u64]) {
+    let mut from: usize = 0;
+    let mut k: usize = 0;
+    while k < values.len() {
+        let mark = mark_from(text, from);
+        if mark < from {
+            return;
+        }
+        say_field(&text[from..mark], values[k]);
+        from = mark + 1;
+        k += 1;
+    }
 }
 
 fn wide(x: u8) -> u64 {

@@ -1,7 +1,6 @@
 // The cases that spoil the table and the store, and bring them back.
 use crate::say::say;
 use crate::state::State;
-use crate::state::Told;
 use crate::state::start;
 use base::SlotNumber;
 use segments::Right;
@@ -10,17 +9,16 @@ use segments::Segments;
 use segments::Table;
 
 // The payload has: place, value.
-pub(crate) fn set_byte(payload: &[u8], store: &mut [u8]) -> bool {
-    if payload.len() != 5 {
-        return false;
-    }
+pub(crate) fn set_byte(payload: &[u8], store: &mut [u8]) {
     let place = numbers::le4(payload, 0) as usize;
     if store.len() <= place {
-        return false;
+        return;
+    }
+    if payload.len() != 5 {
+        return;
     }
     store[place] = payload[4];
     say(b"set-byte done");
-    true
 }
 
 fn right_of(right: u32, slot: u32) -> Right {
@@ -78,23 +76,6 @@ fn segment_of(payload: &[u8]) -> Segment {
     }
 }
 
-fn has_form(payload: &[u8]) -> bool {
-    if payload.len() != 32 {
-        return false;
-    }
-    let iomode = numbers::le4(payload, 0);
-    if iomode != 1 && iomode != 2 {
-        return false;
-    }
-    if 31 < numbers::le4(payload, 4) {
-        return false;
-    }
-    if 2 < numbers::le4(payload, 24) {
-        return false;
-    }
-    numbers::le4(payload, 28) <= 255
-}
-
 fn with_segment(t: Table, iomode: u32, place: usize, s: Segment) -> Table {
     let read = t.read;
     let rw = t.rw;
@@ -110,51 +91,30 @@ fn with_segment(t: Table, iomode: u32, place: usize, s: Segment) -> Table {
     }
 }
 
-pub(crate) fn set_segment(payload: &[u8], state: State) -> Told {
-    if !has_form(payload) {
-        return Told { state, told: false };
-    }
+pub(crate) fn set_segment(payload: &[u8], state: State) -> State {
     let iomode = numbers::le4(payload, 0);
     let place = numbers::le4(payload, 4) as usize;
     let before = state.table;
     let table = with_segment(before, iomode, place, segment_of(payload));
     say(b"set-segment done");
-    let after = State {
+    State {
         table,
         borrowed: state.borrowed,
-    };
-    Told {
-        state: after,
-        told: true,
     }
 }
 
-pub(crate) fn reset(payload: &[u8], state: State, store: &mut [u8]) -> Told {
-    if payload.len() != 0 {
-        return Told { state, told: false };
-    }
+pub(crate) fn reset(store: &mut [u8]) -> State {
     let size = store.len();
     buffers::put_zeros(store, 0, size);
     say(b"reset done");
-    Told {
-        state: start(),
-        told: true,
-    }
+    start()
 }
 
-pub(crate) fn set_borrowed(payload: &[u8], state: State) -> Told {
-    if payload.len() != 4 {
-        return Told { state, told: false };
-    }
-    let borrowed = numbers::le4(payload, 0) as usize;
-    if 32768 < borrowed {
-        return Told { state, told: false };
-    }
+pub(crate) fn set_borrowed(payload: &[u8], state: State) -> State {
     let table = state.table;
     say(b"lend done");
-    let after = State { table, borrowed };
-    Told {
-        state: after,
-        told: true,
+    State {
+        table,
+        borrowed: numbers::le4(payload, 0) as usize,
     }
 }

@@ -7,12 +7,6 @@ pub struct State {
     pub borrowed: usize,
 }
 
-// What a case leaves, and whether there was such a case. If so, its line is written but for the end; if not, nothing is.
-pub struct Told {
-    pub state: State,
-    pub told: bool,
-}
-
 pub(crate) fn start() -> State {
     State {
         table: segments::empty_table(),

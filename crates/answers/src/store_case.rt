@@ -1,6 +1,6 @@
 // The body store: for each slot the length that it says, and a checksum of its bytes.
 use crate::say::say;
-use crate::say::say_field;
+use crate::say::say_fields;
 use base::SlotNumber;
 ghost use Prim.Native.Nat.{_<_};
 
@@ -25,19 +25,15 @@ fn checksum(s: &[u8]) -> u64 {
 
 fn say_slot(store: &[u8], i: u32) {
     let slot = store::slot_bytes(store, SlotNumber(i));
-    say_field(b" ", numbers::le4(slot, 0) as u64);
-    say_field(b":", checksum(slot));
+    let values = [numbers::le4(slot, 0) as u64, checksum(slot)];
+    say_fields(b" #:#", &values);
 }
 
-pub(crate) fn say_store(payload: &[u8], store: &[u8]) -> bool {
-    if payload.len() != 0 {
-        return false;
-    }
+pub(crate) fn say_store(store: &[u8]) {
     say(b"shelf");
     let mut i: u32 = 0;
     while i < 8 {
         say_slot(store, i);
         i += 1;
     }
-    true
 }

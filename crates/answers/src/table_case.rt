@@ -2,7 +2,7 @@
 use crate::say::say;
 use crate::say::say_between;
 use crate::say::say_field;
-use crate::say::say_number;
+use crate::say::say_fields;
 use segments::Right;
 use segments::Segment;
 use segments::Segments;
@@ -18,8 +18,8 @@ fn say_right(r: Right) {
 
 fn say_segment(s: Segment) {
     let right = s.right;
-    say_number(s.first);
-    say_field(b"-", s.last);
+    let values = [s.first, s.last];
+    say_fields(b"#-#", &values);
     say(b":");
     say_right(right);
 }
@@ -36,15 +36,11 @@ fn say_segments(g: Segments) {
     }
 }
 
-pub(crate) fn say_table(payload: &[u8], t: Table) -> bool {
-    if payload.len() != 0 {
-        return false;
-    }
+pub(crate) fn say_table(t: Table) {
     let read = t.read;
     let rw = t.rw;
     say(b"table read=");
     say_segments(read);
     say(b" rw=");
     say_segments(rw);
-    true
 }

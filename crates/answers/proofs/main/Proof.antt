@@ -1,8 +1,9 @@
 -- `answers::main` is safe and ends. The buffers keep their lengths. A record has at least one byte, so each turn brings the place nearer to the bound.
 use Prim.Native.Nat.{_-_}
 use borrow.Author.Needs.{needs}
-use lib.ListN.{length}
+use lib.ListN.{length, length-take}
 use mathlib.Core.Path.{_≡_}
+use native.Mathlib.Omega.{arith}
 use Rattle.answers.proofs.main.Statement.{statement}
 use Rattle.answers.proofs.main.Tie as tie
 
@@ -18,20 +19,53 @@ start-requires c κs = search needs
 loop-holds : tie.Need-loop-holds Inv-loop μ-loop
 loop-holds c = search needs
 
-slice-aggregate-take-record : tie.Need-slice-aggregate-take-record Inv-loop μ-loop
-slice-aggregate-take-record c = search needs
+slice-aggregate-read-record : tie.Need-slice-aggregate-read-record Inv-loop μ-loop
+slice-aggregate-read-record c = search needs
 
-slice-aggregate-take-record-2 : tie.Need-slice-aggregate-take-record-2 Inv-loop μ-loop
-slice-aggregate-take-record-2 c = search needs
+read-record-requires : tie.Need-read-record-requires Inv-loop μ-loop
+read-record-requires c κs = search needs
 
-take-record-requires : tie.Need-take-record-requires Inv-loop μ-loop
-take-record-requires c κs = search needs
+enum-known-r : tie.Need-enum-known-r Inv-loop μ-loop
+enum-known-r c = search needs
+
+say-last-requires : tie.Need-say-last-requires Inv-loop μ-loop
+say-last-requires c κs = search needs
 
 returns : tie.Need-returns Inv-loop μ-loop
 returns c = search needs
 
+cast-size : tie.Need-cast-size Inv-loop μ-loop
+cast-size c = search needs
+
+returns-2 : tie.Need-returns-2 Inv-loop μ-loop
+returns-2 c = search needs
+
+array-share-prefix-payload : tie.Need-array-share-prefix-payload Inv-loop μ-loop
+array-share-prefix-payload c = search needs
+
+slice-aggregate-take-case : tie.Need-slice-aggregate-take-case Inv-loop μ-loop
+slice-aggregate-take-case c = simp length-take (omega arith)
+
+slice-aggregate-take-case-2 : tie.Need-slice-aggregate-take-case-2 Inv-loop μ-loop
+slice-aggregate-take-case-2 c = search needs
+
+take-case-requires : tie.Need-take-case-requires Inv-loop μ-loop
+take-case-requires c κs = search needs
+
+end-line-requires : tie.Need-end-line-requires Inv-loop μ-loop
+end-line-requires c κs = search needs
+
+returns-3 : tie.Need-returns-3 Inv-loop μ-loop
+returns-3 c = search needs
+
+cast-place : tie.Need-cast-place Inv-loop μ-loop
+cast-place c = search needs
+
 add-place : tie.Need-add-place Inv-loop μ-loop
 add-place c = search needs
+
+add-place-2 : tie.Need-add-place-2 Inv-loop μ-loop
+add-place-2 c = search needs
 
 loop-less : tie.Need-loop-less Inv-loop μ-loop
 loop-less c = search needs
@@ -39,8 +73,8 @@ loop-less c = search needs
 loop-again : tie.Need-loop-again Inv-loop μ-loop
 loop-again c = search needs
 
-returns-2 : tie.Need-returns-2 Inv-loop μ-loop
-returns-2 c = search needs
+returns-4 : tie.Need-returns-4 Inv-loop μ-loop
+returns-4 c = search needs
 
 pub main-spec : {M : Type 1} → statement M
 main-spec =
@@ -50,11 +84,22 @@ main-spec =
     μ-loop
     start-requires
     loop-holds
-    slice-aggregate-take-record
-    slice-aggregate-take-record-2
-    take-record-requires
+    slice-aggregate-read-record
+    read-record-requires
+    enum-known-r
+    say-last-requires
     returns
+    cast-size
+    returns-2
+    array-share-prefix-payload
+    slice-aggregate-take-case
+    slice-aggregate-take-case-2
+    take-case-requires
+    end-line-requires
+    returns-3
+    cast-place
     add-place
+    add-place-2
     loop-less
     loop-again
-    returns-2)
+    returns-4)

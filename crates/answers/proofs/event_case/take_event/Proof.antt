@@ -8,12 +8,6 @@ use Rattle.answers.proofs.event_case.take_event.Tie as tie
 returns : tie.Need-returns
 returns c = search needs
 
-has-form-requires : tie.Need-has-form-requires
-has-form-requires c κs = search needs
-
-returns-2 : tie.Need-returns-2
-returns-2 c = search needs
-
 slice-relend-prefix-call : tie.Need-slice-relend-prefix-call
 slice-relend-prefix-call c = search needs
 
@@ -29,19 +23,17 @@ say-verdict-requires c κs = search needs
 same-length : tie.Need-same-length
 same-length c = search needs
 
-returns-3 : tie.Need-returns-3
-returns-3 c = search needs
+returns-2 : tie.Need-returns-2
+returns-2 c = search needs
 
 pub take-event-spec : {M : Type 1} → statement M
 take-event-spec =
     tie.close
     (tie.spec
     returns
-    has-form-requires
-    returns-2
     slice-relend-prefix-call
     slice-aggregate-call
     call-requires
     say-verdict-requires
     same-length
-    returns-3)
+    returns-2)

@@ -8,9 +8,6 @@ use Rattle.answers.proofs.locate_case.say_locate.Tie as tie
 returns : tie.Need-returns
 returns c = search needs
 
-returns-2 : tie.Need-returns-2
-returns-2 c = search needs
-
 le8-requires : tie.Need-le8-requires
 le8-requires c κs = search needs
 
@@ -26,18 +23,17 @@ locate-requires c κs = search needs
 say-located-requires : tie.Need-say-located-requires
 say-located-requires c κs = search needs
 
-returns-3 : tie.Need-returns-3
-returns-3 c = search needs
+returns-2 : tie.Need-returns-2
+returns-2 c = search needs
 
 pub say-locate-spec : {M : Type 1} → statement M
 say-locate-spec =
     tie.close
     (tie.spec
     returns
-    returns-2
     le8-requires
     le8-requires-2
     slice-aggregate-locate
     locate-requires
     say-located-requires
-    returns-3)
+    returns-2)

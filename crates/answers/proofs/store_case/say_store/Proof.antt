@@ -5,13 +5,10 @@ use Rattle.answers.proofs.store_case.say_store.Statement.{statement}
 use Rattle.answers.proofs.store_case.say_store.Tie as tie
 
 abbrev Inv-loop : tie.InvT-loop
-Inv-loop payload store i₀ i = Unit {0}
+Inv-loop store i₀ i = Unit {0}
 
 abbrev μ-loop : tie.MeasureT-loop
-μ-loop payload store i₀ i = 8 - i
-
-returns : tie.Need-returns Inv-loop μ-loop
-returns c = search needs
+μ-loop store i₀ i = 8 - i
 
 slice-aggregate-say : tie.Need-slice-aggregate-say Inv-loop μ-loop
 slice-aggregate-say c = search needs
@@ -34,8 +31,8 @@ loop-less c = search needs
 loop-again : tie.Need-loop-again Inv-loop μ-loop
 loop-again c = search needs
 
-returns-2 : tie.Need-returns-2 Inv-loop μ-loop
-returns-2 c = search needs
+returns : tie.Need-returns Inv-loop μ-loop
+returns c = search needs
 
 pub say-store-spec : {M : Type 1} → statement M
 say-store-spec =
@@ -43,7 +40,6 @@ say-store-spec =
     (tie.spec
     Inv-loop
     μ-loop
-    returns
     slice-aggregate-say
     say-requires
     loop-holds
@@ -51,4 +47,4 @@ say-store-spec =
     add-i
     loop-less
     loop-again
-    returns-2)
+    returns)
