@@ -18,7 +18,7 @@ use Rattle.lookup.specs.declared.range.Condition.the-variants.{Held, HeldElsewh
 use Rattle.lookup.specs.Lookup.{satisfies, tableMeets}
 use Rattle.table.specs.declared.change.Change.the-variants as change
 use Rattle.store.specs.Store.{Body, Slot, holds, storeOf}
-use Rattle.reference.specs.Claim.{Left}
+use Rattle.reference.specs.Claim.{CallResult}
 use Rattle.reference.specs.Model.{ByteRight, none, granted, recalled, Model, Order, Deed, grants, returns, recalls, revokes, act, anyByte, covers, ifAccepted, inSlots, isHeld, isRecalled, meets, noneEmpty, placed, refuse, slotOf, stops21, stops22, stops24, stops25, tableOf, tooMany, verdict, withSlot}
 use Rattle.reference.proofs.SlotLaws.{placed-held, placed-length, same-number}
 use Rattle.reference.proofs.Inv.{GoodBody, GoodDeed, Housed, Inv, Passes, act-keeps}
@@ -88,7 +88,7 @@ no-home ss b e f = rw (e, f)
 -- ---- the change
 
 -- what an event that is answered n leaves
-abbrev pub ended : ℕ → Order → Model → ℕ → Left
+abbrev pub ended : ℕ → Order → Model → ℕ → CallResult
 ended N o M n = record { answer = n; table = tableOf N (ifAccepted n (act N o M) M); store = storeOf (ifAccepted n (act N o M) M .slots) }
 
 fits-placed : (N : ℕ) (M : Model) (d : Deed) → Inv N M → GoodDeed d → Fitting (placed d (M .slots))

@@ -5,6 +5,7 @@ use mathlib.Core.Bool.{Bool, true, false}
 use mathlib.Core.List.{List}
 use lib.ListN.{replicate}
 use Rattle.base.specs.Answer.{Answer, accepted, refused, pick}
+use Rattle.base.specs.Lists.{Each}
 use Rattle.base.specs.Ranges.{lastByte}
 use Rattle.base.specs.declared.iomode.Iomode.{Iomode}
 use Rattle.segments.specs.declared.Table.{Table}
@@ -17,7 +18,7 @@ use Rattle.table.specs.Edits.{tableEdited}
 use Rattle.store.specs.Store.{Body, holds, slotSet}
 use Rattle.reference.specs.Model.{Deed, Event, Order, grants, own, recalls, returns, revokes, run, start}
 use Rattle.reference.specs.Sound.{slotsIn, sound}
-use Rattle.reference.specs.Claim.{AllFit, Left, storeLeft, tableLeft}
+use Rattle.reference.specs.Claim.{CallResult, Fits, storeLeft, tableLeft}
 use Rattle.reference.proofs.Inv.{start-keeps}
 use Rattle.reference.proofs.SoundLaws.{model-sound}
 use Rattle.reference.proofs.FromStep.{run-keeps}
@@ -28,13 +29,13 @@ use Rattle.events.specs.Events.{afterGrant, afterRecall, byDeed, called, carrie
 use Rattle.agreement.proofs.Demand.{calls-meet-demand-3}
 
 module _ (t : Table) (store : List ℕ) where
-  abbrev Unchanged : Left → Type 0
+  abbrev Unchanged : CallResult → Type 0
   Unchanged l = (l .answer ≡ 0 → ⊥) → (l .table ≡ t) × (l .store ≡ store)
 
   refused-keeps : (n : ℕ) → Unchanged (refusedWith n t store)
   refused-keeps n h = (refl, refl)
 
-  either : (b : Bool) (l k : Left) → Unchanged l → Unchanged k → Unchanged (pick b l k)
+  either : (b : Bool) (l k : CallResult) → Unchanged l → Unchanged k → Unchanged (pick b l k)
   unfolding pick
   either true l k u w = u
   either false l k u w = w
@@ -68,7 +69,7 @@ module _ (t : Table) (store : List ℕ) where
   unfolding called
   refusal-keeps e = either (sound t store) _ _ (order-keeps (own e)) (refused-keeps 20)
 
-pub sound-after : (es : List Event) → AllFit es
+pub sound-after : (es : List Event) → Each Fits es
     → sound (tableLeft called es emptyTable (replicate 32768 0)) (storeLeft called es emptyTable (replicate 32768 0)) ≡ true
 sound-after es fs =
     let d = calls-meet-demand-3 es fs in

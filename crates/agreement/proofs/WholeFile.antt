@@ -9,10 +9,11 @@ use lib.Dec.{eqb, leb}
 use lib.ListN.{length, drop, length-take}
 use Rattle.base.specs.Answer.{Answer, accepted, refused, given, pick}
 use Rattle.base.specs.Iomodes.{iomodeOf}
+use Rattle.base.specs.Lists.{Each}
 use Rattle.base.specs.Ranges.{lastByte, rangeLast, toTheEnd}
 use Rattle.base.specs.declared.iomode.Iomode.{Iomode}
 use Rattle.base.specs.declared.iomode.Iomode.the-variants.{Read, ReadWrite, Any}
-use Rattle.xdr.proofs.Accepted.{both}
+use Rattle.base.proofs.AnswerLaws.{both}
 use Rattle.segments.specs.declared.Segment.{Segment}
 use Rattle.segments.specs.declared.Segments.{Segments}
 use Rattle.segments.specs.declared.Table.{Table}
@@ -30,8 +31,8 @@ use Rattle.events.specs.Events.{InFile, afterRecall, called, carried, obeyed, r
 
 -- ---- the edit
 
-in-file-below : (l : List Segment) → InFile l → Below (suc lastByte) l
-unfolding InFile Below
+in-file-below : (l : List Segment) → Each InFile l → Below (suc lastByte) l
+unfolding Below
 in-file-below [] h = tt
 in-file-below (s ∷ l) h = (omega (arith, h .0), in-file-below l (h .1))
 
@@ -40,7 +41,7 @@ abbrev Shrinks : Change → Type 0
 Shrinks c = (l : List Segment) → Below (suc lastByte) l → length (edited c 0 lastByte l) ≤ length l
 
 module _ (c : Change) (shrinks : Shrinks c) where
-  edit-fits : (b : Bool) (g : Segments) → leb (g .count) 32 ≡ true → InFile (listOf g) → editedWhere b c 0 lastByte g .fits ≡ true
+  edit-fits : (b : Bool) (g : Segments) → leb (g .count) 32 ≡ true → Each InFile (listOf g) → editedWhere b c 0 lastByte g .fits ≡ true
   unfolding editedIn pick
   edit-fits false g few h = refl
   edit-fits true g few h =
@@ -50,7 +51,7 @@ module _ (c : Change) (shrinks : Shrinks c) where
       let z : length (edited c 0 lastByte (listOf g)) ≤ 32 = omega arith in
       rw (le-leb (length (edited c 0 lastByte (listOf g))) 32 z) refl
 
-  module _ (t : Table) (store : List ℕ) (sounds : sound t store ≡ true) (read : InFile (listOf (t .read))) (rw-list : InFile (listOf (t .rw))) where
+  module _ (t : Table) (store : List ℕ) (sounds : sound t store ≡ true) (read : Each InFile (listOf (t .read))) (rw-list : Each InFile (listOf (t .rw))) where
     few : (g : Segments) → segmentsSound g ≡ true → leb (g .count) 32 ≡ true
     unfolding segmentsSound
     few g h =
@@ -82,7 +83,7 @@ iomode-answer number = go (eqb number 1) (eqb number 2) (eqb number 3)
     go false false true e = let z : _≡_ {A = ℕ} 0 1 = cc in omega arith
     go false false false e = let z : _≡_ {A = ℕ} 3 23 = cc in omega arith
 
-module _ (t : Table) (store : List ℕ) (read : InFile (listOf (t .read))) (rw-list : InFile (listOf (t .rw))) where
+module _ (t : Table) (store : List ℕ) (read : Each InFile (listOf (t .read))) (rw-list : Each InFile (listOf (t .rw))) where
   -- an event is judged where table and store are sound
   judged : (e : Event) → (sound t store ≡ true → obeyed (own e) t store .answer ≡ 23 → ⊥) → called e t store .answer ≡ 23 → ⊥
   unfolding called pick

@@ -9,9 +9,10 @@ use borrow.Author.Tests.{eqb-true, ltb-true}
 use lib.Dec.{eqb, leb, ltb}
 use lib.ListN.{getD, take}
 use Rattle.base.specs.Answer.{Answer, accepted, refused, given, pick}
+use Rattle.base.proofs.AnswerLaws.{both, never-refused, same-refusal}
 use Rattle.xdr.specs.Res.{Res, ok, no, then, manyAt}
 use Rattle.xdr.specs.Items.{opaqueAt}
-use Rattle.xdr.proofs.Accepted.{both, ran, same-value}
+use Rattle.xdr.proofs.Accepted.{ran, same-value}
 use Rattle.numbers.specs.Numbers.{bytesFrom, sameBytes}
 use Rattle.server.specs.Servers.{handlesAt, serverAt}
 use Rattle.server.specs.declared.item.Server.{Server}
@@ -76,20 +77,14 @@ handle-there s at v p i e h =
 abbrev pub Listed : ℕ → Type 0
 Listed n = (n ≡ 16) ⊎ ((n ≡ 8) ⊎ ((n ≡ 13) ⊎ ((n ≡ 14) ⊎ (n ≡ 15))))
 
-never-refused : {A B : Type 0} (a : A) (n : ℕ) → accepted a ≡ refused n → B
-never-refused a n e = let z : _≡_ {A = ℕ} 0 1 = cc in absurd (omega arith)
-
-same-number : {A : Type 0} (k n : ℕ) → _≡_ {A = Answer A} (refused k) (refused n) → n ≡ k
-same-number k n e = cc
-
 must-refused : {A : Type 0} (t : Bool) (k : ℕ) (x : Answer A) (n : ℕ) → must t k x ≡ refused n → (n ≡ k) ⊎ ((t ≡ true) × (x ≡ refused n))
 unfolding must pick
 must-refused true k x n e = inr (refl, e)
-must-refused false k x n e = inl (same-number k n e)
+must-refused false k x n e = inl (sym (same-refusal k n e))
 
 chosen-refused : (set i : ℕ) (vs : List Version) (n : ℕ) → chosenFrom set i vs ≡ refused n → n ≡ 14
 unfolding chosenFrom pick
-chosen-refused set i [] n e = same-number 14 n e
+chosen-refused set i [] n e = sym (same-refusal 14 n e)
 chosen-refused set i (v ∷ vs) n e = go (supports set v) e (chosen-refused set (i + 1) vs n) where
   go : (t : Bool) → pick t (accepted i) (chosenFrom set (i + 1) vs) ≡ refused n → (chosenFrom set (i + 1) vs ≡ refused n → n ≡ 14) → n ≡ 14
   go true k rest = never-refused i n k
@@ -110,7 +105,7 @@ chosen-entry s start p v versions count set n r hc e = go (chosenFrom set 0 (tak
   go (accepted i) h k =
       let small = chosen-below set count versions i h in
       inr (entry-refused s v (getD versions i blankVersion) i n (handle-there s start v p i r (omega (arith, hc, small))) k)
-  go (refused m) h k = inl (same-number m n k ∙ chosen-refused set 0 (take count versions) m h)
+  go (refused m) h k = inl (sym (same-refusal m n k) ∙ chosen-refused set 0 (take count versions) m h)
 
 server-refused : (s : List ℕ) (start p : ℕ) (v : Server) (versions : List Version) (count : ℕ) (id : List ℕ) (set n : ℕ) → serverAt s start ≡ ok v p
     → serverBound s start versions count id set ≡ refused n → (n ≡ 13) ⊎ ((n ≡ 14) ⊎ (n ≡ 15))
@@ -152,5 +147,5 @@ refused-as-listed layout mirror stripe device id set n e = bodies (layoutBody la
       (serverBound layout (getD (l .starts) (mirror * 16 + stripe) 0) (d .versions) (d .versionCount) id set)))) ≡ refused n
       → (layoutBody layout ≡ refused n) ⊎ ((deviceBody device ≡ refused n) ⊎ Listed n)
   bodies (accepted l) h (accepted d) k e' = inr (inr (listed l d h e'))
-  bodies (accepted l) h (refused m) k e' = inr (inl (k ∙ ap refused (sym (same-number m n e'))))
-  bodies (refused m) h y k e' = inl (h ∙ ap refused (sym (same-number m n e')))
+  bodies (accepted l) h (refused m) k e' = inr (inl (k ∙ ap refused (same-refusal m n e')))
+  bodies (refused m) h y k e' = inl (h ∙ ap refused (same-refusal m n e'))

@@ -10,14 +10,14 @@ use Rattle.binding.specs.declared.entry.Bound.{Bound}
 use Rattle.binding.specs.declared.entry.Binding.{Binding}
 use Rattle.binding.specs.declared.entry.Binding.the-variants as binding
 
-abbrev pub choiceAnswer : Choice → Answer ℕ
-choiceAnswer (choice.Entry i) = accepted i
-choiceAnswer (choice.Refused e) = refused (numberOf e)
+abbrev pub answerOfChoice : Choice → Answer ℕ
+answerOfChoice (choice.Entry i) = accepted i
+answerOfChoice (choice.Refused e) = refused (numberOf e)
 
 abbrev pub whyChoice : Choice → Refusal
 whyChoice (choice.Entry i) = NoSupportedVersion
 whyChoice (choice.Refused e) = e
 
-abbrev pub bindingAnswer : Binding → Answer Bound
-bindingAnswer (binding.Value b) = accepted b
-bindingAnswer (binding.Refused e) = refused (numberOf e)
+abbrev pub answerOfBinding : Binding → Answer Bound
+answerOfBinding (binding.Value b) = accepted b
+answerOfBinding (binding.Refused e) = refused (numberOf e)

@@ -1,11 +1,12 @@
 -- "Given a layout body, a mirror and stripe number, a device body, the device id it was fetched under and the set of spoken versions (bits 1,
 -- 2, 4, 8 for 3, 4.0, 4.1, 4.2). Check layout body, device body, 16, 8, 13, 14, 15."
-use Prim.Native.Nat.{ℕ, _+_, _*_, _/_, _%_}
+use Prim.Native.Nat.{ℕ, _+_, _*_, _%_}
 use mathlib.Core.List.{List, [], _∷_}
 use mathlib.Core.Bool.{Bool, _&&_, _||_, not}
 use lib.ListN.{getD, replicate, take}
 use lib.Dec.{leb, ltb, eqb}
 use Rattle.base.specs.Answer.{Answer, accepted, refused, given, pick}
+use Rattle.base.specs.Bits.{bit}
 use Rattle.numbers.specs.Numbers.{bytesFrom, sameBytes}
 use Rattle.xdr.specs.Res.{Res, ok, no, then}
 use Rattle.xdr.specs.Items.{opaqueAt}
@@ -26,10 +27,6 @@ must test n next = pick test next (refused n)
 unfoldable pub valueOf : {A : Type 0} → Res A → Answer A
 valueOf (ok a at) = accepted a
 valueOf (no n) = refused n
-
--- whether a bit is in a set
-abbrev pub bit : ℕ → ℕ → Bool
-bit b set = eqb (set / b % 2) 1
 
 -- "bits 1, 2, 4, 8 for 3, 4.0, 4.1, 4.2"; an accepted entry is one of these four
 unfoldable pub supports : ℕ → Version → Bool

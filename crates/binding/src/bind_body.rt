@@ -8,7 +8,7 @@ use device::DeviceAnswer;
 use layout::LayoutAnswer;
 ghost use mathlib.Core.Path.{_≡_};
 ghost use Rattle.binding.specs.Bindings.{boundTo};
-ghost use Rattle.binding.specs.Answers.{bindingAnswer};
+ghost use Rattle.binding.specs.Answers.{answerOfBinding};
 
 fn wide(x: u16) -> usize
     ensures { λ r. ⌜ r ≡ x ⌝ }
@@ -25,7 +25,7 @@ pub fn bind(
     id: &[u8; 16],
     supported: u32,
 ) -> Binding
-    ensures { λ r. ⌜ bindingAnswer r
+    ensures { λ r. ⌜ answerOfBinding r
         ≡ boundTo (now (layout .entry)) (mirror .0) (stripe .0) (now (device .entry)) (now (id .entry)) supported ⌝ }
 {
     let l = layout::read_layout(layout);

@@ -7,9 +7,9 @@ use xdr::ReadPart;
 ghost use mathlib.Core.Path.{_≡_};
 ghost use Prim.Native.Nat.{_≤_, _<_};
 ghost use lib.ListN.{take};
-ghost use Rattle.xdr.specs.Answers.{resPart};
+ghost use Rattle.xdr.specs.Answers.{resOfPart};
 ghost use Rattle.binding.specs.Bindings.{chosenFrom, handleAt, supports};
-ghost use Rattle.binding.specs.Answers.{choiceAnswer, whyChoice};
+ghost use Rattle.binding.specs.Answers.{answerOfChoice, whyChoice};
 
 pub enum Choice {
     Entry(u32),
@@ -35,7 +35,7 @@ pub(crate) fn supported_by(set: u32, v: Version) -> bool
 // The first of the n entries that is supported.
 pub(crate) fn choose(set: u32, versions: [Version; 8], n: u32) -> Choice
     requires { ⌜ n ≤ 8 ⌝ }
-    ensures { λ r. ⌜ choiceAnswer r ≡ chosenFrom set 0 (take n versions) ⌝ }
+    ensures { λ r. ⌜ answerOfChoice r ≡ chosenFrom set 0 (take n versions) ⌝ }
 {
     let mut i: u32 = 0;
     while i < n {
@@ -59,7 +59,7 @@ pub(crate) fn why_choice(r: Choice) -> Refusal
 
 // The filehandle behind i others.
 pub(crate) fn read_handle(s: &[u8], first: Cursor, i: u32) -> ReadPart
-    ensures { λ r. ⌜ resPart r ≡ handleAt i (now (s .entry)) (first .at) ⌝ }
+    ensures { λ r. ⌜ resOfPart r ≡ handleAt i (now (s .entry)) (first .at) ⌝ }
 {
     let p = server::skip_handles(s, first, i);
     let ReadEnd::Value(c) = p else {

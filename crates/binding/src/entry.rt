@@ -14,7 +14,7 @@ ghost use mathlib.Core.Path.{_≡_};
 ghost use Prim.Native.Nat.{_+_, _≤_};
 ghost use lib.ListN.{length};
 ghost use Rattle.binding.specs.Bindings.{entryBound, matches, serverBound, stateidFits};
-ghost use Rattle.binding.specs.Answers.{bindingAnswer};
+ghost use Rattle.binding.specs.Answers.{answerOfBinding};
 
 // The entry's number and fields, and its filehandle. A tightly coupled entry has the place of the stateid, another one user and group; what is
 // not used is 0.
@@ -64,7 +64,7 @@ fn server_matches(s: &[u8], server: Server, count: u32, id: &[u8; 16]) -> bool
 
 fn bind_entry(s: &[u8], server: Server, v: Version, i: u32) -> Binding
     requires { ⌜ server .stateid + 16 ≤ length (now s) ⌝ }
-    ensures { λ r. ⌜ bindingAnswer r ≡ entryBound (now (s .entry)) server v i ⌝ }
+    ensures { λ r. ⌜ answerOfBinding r ≡ entryBound (now (s .entry)) server v i ⌝ }
 {
     if !stateid_fits(s, v, server.stateid) {
         return Binding::Refused(Refusal::StateidNotZero);
@@ -111,7 +111,7 @@ pub(crate) fn bind_server(
     set: u32,
 ) -> Binding
     requires { ⌜ count ≤ 8 ⌝ }
-    ensures { λ r. ⌜ bindingAnswer r ≡ serverBound (now (s .entry)) start versions count (now (id .entry)) set ⌝ }
+    ensures { λ r. ⌜ answerOfBinding r ≡ serverBound (now (s .entry)) start versions count (now (id .entry)) set ⌝ }
 {
     let r = server::read_server(s, Cursor { at: start });
     let ReadServer::Value(server, _) = r else {

@@ -8,10 +8,9 @@ use borrow.Author.Tests.{eqb-true}
 use lib.Dec.{eqb}
 use lib.ListN.{length}
 use Rattle.base.specs.Answer.{Answer, accepted, refused, given, pick}
-use Rattle.xdr.specs.Res.{Res, ok, no, then, manyAt, inside, whole}
+use Rattle.base.proofs.AnswerLaws.{both, never-refused, same-refusal}
+use Rattle.xdr.specs.Res.{Res, ok, no, then, manyAt, asItem, whole}
 use Rattle.xdr.specs.Items.{allZero, boolAt, bytesAt, countAt, numAt, opaqueAt}
-use Rattle.xdr.proofs.Accepted.{both}
-use Rattle.route.proofs.ServedLaws.{never-refused, same-refusal}
 use Rattle.claims.specs.Statements.{isOneOf}
 
 -- ---- lists of numbers
@@ -119,8 +118,8 @@ module _ {A : Type 0} {ns : List ℕ} where
 
   -- ---- answers among items
 
-  pub inside-faults : (x : Answer A) (at : ℕ) → RefusalsIn ns x → FaultsIn ns (inside x at)
-  unfolding inside
+  pub inside-faults : (x : Answer A) (at : ℕ) → RefusalsIn ns x → FaultsIn ns (asItem x at)
+  unfolding asItem
   inside-faults (accepted a) at h = read
   inside-faults (refused n) at h = stops n (h .refusal n refl)
 

@@ -24,21 +24,22 @@ ghost use Rattle.binding.specs.Bindings.{boundTo};
 ghost use Rattle.report.specs.Reports.{Report, reportBody};
 ghost use Rattle.report.specs.Answers.{headsOf};
 ghost use Rattle.report.specs.declared.ReportHead.{ReportHead};
-ghost use Rattle.report_write.specs.Places.{Each, HeadFits, RecordFits, placed, recordsIn};
-ghost use Rattle.report_write.specs.Writing.{ErrorRecord, after, reportsWritten};
+ghost use Rattle.report_write.specs.Places.{HeadFits, RecordFits, placed, recordsIn};
+ghost use Rattle.report_write.specs.Writing.{ErrorRecord, outputAfter, reportsWritten};
+ghost use Rattle.base.specs.Lists.{Each};
 ghost use Rattle.base.specs.Ranges.{toTheEnd};
 ghost use Rattle.segments.specs.declared.Table.{Table};
 ghost use Rattle.segments.specs.Segments.{RW, emptyTable, listIn, listOf, rightAt};
 ghost use Rattle.segments.specs.declared.Right.the-variants.{Granted};
 ghost use Rattle.route.specs.declared.piece.Piece.{Piece};
 ghost use Rattle.route.specs.Routes.{layoutIn, routed};
-ghost use Rattle.reference.specs.Claim.{AllFit, Calls, Demand3, storeLeft, tableLeft};
+ghost use Rattle.reference.specs.Claim.{Calls, Demand3, Fits, storeLeft, tableLeft};
 ghost use Rattle.reference.specs.Cases as cases;
 ghost use Rattle.reference.specs.StandIns.{changesNothing, firstOnly, refusesAll};
 ghost use Rattle.reference.specs.Sound.{sound};
 ghost use Rattle.reference.specs.Model.{Event, Recall, Return, Revoke};
 ghost use Rattle.events.specs.Events.{InFile, called};
-ghost use Rattle.examples.specs.Examples.{AllHold, examples};
+ghost use Rattle.examples.specs.Examples.{Holds, examples};
 ghost use Rattle.record.specs.Records.{recordOf, tableIn};
 ghost use Rattle.record.specs.declared.types.TableRecord.{TableRecord};
 ghost use Rattle.driver.specs.Calls.{calledOn, recorded};
@@ -63,7 +64,7 @@ pub fn refused_calls_keep_records()
 pub fn refused_reports_keep_the_output()
     ensures { λ r. ⌜ ((count : ℕ) (heads : List ReportHead) (errors : List ErrorRecord) (out : List ℕ) (n : ℕ)
         → reportsWritten count heads errors (length out) ≡ refused n
-        → after out (reportsWritten count heads errors (length out)) ≡ out) ⌝ }
+        → outputAfter out (reportsWritten count heads errors (length out)) ≡ out) ⌝ }
 {}
 
 // "Nothing else is refused", of bodies read and written: the numbers that each can be refused with. 0, which stands for accepted, is none of them.
@@ -195,13 +196,13 @@ pub fn stand_ins_fall()
 
 // After every list of events table and store are sound. `called` refuses with 20 only where they are not, so after calls alone 20 never comes.
 pub fn events_leave_sound_tables()
-    ensures { λ r. ⌜ ((es : List Event) → AllFit es
+    ensures { λ r. ⌜ ((es : List Event) → Each Fits es
         → sound (tableLeft called es emptyTable (replicate 32768 0)) (storeLeft called es emptyTable (replicate 32768 0)) ≡ true) ⌝ }
 {}
 
 // "a whole-file recall or return (offset 0, length 2^64 - 1) and a revoke never meet 23", on whatever table of 64-bit numbers (`InFile`).
 pub fn whole_file_events_always_fit()
-    ensures { λ r. ⌜ ((t : Table) (store : List ℕ) → InFile (listOf (t .read)) → InFile (listOf (t .rw)) → (number : ℕ)
+    ensures { λ r. ⌜ ((t : Table) (store : List ℕ) → Each InFile (listOf (t .read)) → Each InFile (listOf (t .rw)) → (number : ℕ)
         → (called (Return 0 toTheEnd number) t store .answer ≡ 23 → ⊥)
         × (called (Recall 0 toTheEnd number) t store .answer ≡ 23 → ⊥)
         × (called Revoke t store .answer ≡ 23 → ⊥)) ⌝ }
@@ -222,10 +223,10 @@ pub fn exported_events_are_the_events()
 
 // The starred lines of the scope paper's worked examples, one list of cases of one type, in examples/specs/Examples.antt.
 pub fn worked_examples_hold()
-    ensures { λ r. ⌜ AllHold examples ⌝ }
+    ensures { λ r. ⌜ Each Holds examples ⌝ }
 {}
 
 // Other worked examples of the table, computed on the reference model for short files: answers and segments of each list of events.
 pub fn table_examples_hold()
-    ensures { λ r. ⌜ cases.AllHold cases.cases ⌝ }
+    ensures { λ r. ⌜ Each cases.Holds cases.cases ⌝ }
 {}

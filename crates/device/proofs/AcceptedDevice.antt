@@ -1,16 +1,16 @@
 -- What holds of a device body that is accepted: counts in their limits, eight places each, versions that fit, address texts inside the body.
 use Prim.Native.Nat.{ℕ, zero, suc, _+_, _-_, _≤_, _<_}
-use mathlib.Core.Path.{_≡_, refl, sym, ap, _∙_}
-use mathlib.Core.Bool.{Bool, true, false}
+use mathlib.Core.Path.{_≡_, sym, ap, _∙_}
+use mathlib.Core.Bool.{true}
 use mathlib.Core.List.{List, _∷_}
 use native.Mathlib.Omega.{arith}
-use borrow.Author.Tests.{eqb-true}
-use lib.Dec.{eqb, leb}
+use lib.Dec.{leb}
 use lib.ListN.{length, getD, replicate, List·getD-append}
-use Rattle.base.specs.Answer.{accepted, refused, pick}
+use Rattle.base.specs.Answer.{accepted}
 use Rattle.base.specs.Lists.{padded}
-use Rattle.xdr.specs.Res.{Res, ok, no, manyAt, whole}
-use Rattle.xdr.proofs.Accepted.{count-read, many-length, passed, ran, same-value}
+use Rattle.base.proofs.AnswerLaws.{pick-accepted}
+use Rattle.xdr.specs.Res.{Res, ok, manyAt}
+use Rattle.xdr.proofs.Accepted.{count-read, many-length, passed, ran, same-value, whole-read}
 use Rattle.netaddr.specs.Addresses.{addressAt, blankAddress}
 use Rattle.device_version.specs.Versions.{judged, versionAt, versionFits, blankVersion}
 use Rattle.device.specs.Bodies.{Device, Listed, listAt, deviceAt, deviceBody}
@@ -90,24 +90,9 @@ version-fits s at v p h =
 
 -- ---- the whole body
 
-not-accepted : {A B : Type 0} (n : ℕ) (a : A) → refused n ≡ accepted a → B
-not-accepted n a e = let z : _≡_ {A = ℕ} 0 1 = cc in absurd (omega arith)
-
--- what was read of an accepted body ends with it
-whole-read : {A : Type 0} (s : List ℕ) (x : Res A) (a : A) → whole s x ≡ accepted a → x ≡ ok a (length s)
-unfolding whole pick
-whole-read s (ok b at) a h = go (eqb at (length s)) refl h where
-  go : (t : Bool) → eqb at (length s) ≡ t → pick t (accepted b) (refused 2) ≡ accepted a → ok b at ≡ ok a (length s)
-  go true e k = let f : b ≡ a = cc in rw (f, eqb-true at (length s) e)
-  go false e k = not-accepted 2 a k
-whole-read s (no n) a h = not-accepted n a h
-
 pub body-read : (s : List ℕ) (d : Device) → deviceBody s ≡ accepted d → deviceAt s 0 ≡ ok d (length s)
-unfolding deviceBody pick
-body-read s d h = go (leb (length s) 2048) h where
-  go : (t : Bool) → pick t (whole s (deviceAt s 0)) (refused 8) ≡ accepted d → deviceAt s 0 ≡ ok d (length s)
-  go true k = whole-read s (deviceAt s 0) d k
-  go false k = not-accepted 8 d k
+unfolding deviceBody
+body-read s d h = whole-read s (deviceAt s 0) d (pick-accepted (leb (length s) 2048) _ 8 d h .1)
 
 pub addresses-read : (s : List ℕ) (d : Device) → deviceBody s ≡ accepted d
     → IsList (λ a. a .text .start + a .text .len ≤ length s) blankAddress (d .addressCount) (d .addresses)

@@ -15,17 +15,17 @@ use Rattle.device.specs.declared.body.DeviceAnswer.the-variants as devic
 use Rattle.device.specs.declared.body.DeviceRead.{DeviceRead}
 
 -- of a list, the answer is the count; the places stand beside it
-abbrev pub resList : {A : Type 0} → List A → ReadU32 → Res (Listed A)
-resList l (u32.Value n c) = ok (record { count = n; places = l }) (c .at)
-resList l (u32.Refused e) = no (numberOf e)
+abbrev pub resOfList : {A : Type 0} → List A → ReadU32 → Res (Listed A)
+resOfList l (u32.Value n c) = ok (record { count = n; places = l }) (c .at)
+resOfList l (u32.Refused e) = no (numberOf e)
 
 abbrev pub deviceOf : DeviceAnswer → List Address → List Version → Answer Device
 deviceOf (device.Counts m n) addresses versions =
     accepted (record { addressCount = m; addresses = addresses; versionCount = n; versions = versions })
 deviceOf (device.Refused e) addresses versions = refused (numberOf e)
 
-abbrev pub deviceAnswer : DeviceRead → Answer Device
-deviceAnswer r = deviceOf (r .answer) (r .addresses) (r .versions)
+abbrev pub answerOfDevice : DeviceRead → Answer Device
+answerOfDevice r = deviceOf (r .answer) (r .addresses) (r .versions)
 
 -- The refusal in an answer; of an answer with a value, the first of the refusals.
 abbrev pub whyDevice : DeviceAnswer → Refusal

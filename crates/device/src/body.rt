@@ -19,7 +19,7 @@ ghost use Rattle.base.specs.Refusals.{numberOf};
 ghost use Rattle.netaddr.specs.Addresses.{addressAt, blankAddress};
 ghost use Rattle.device_version.specs.Versions.{versionAt, blankVersion};
 ghost use Rattle.device.specs.Bodies.{listAt, deviceBody, addressesIn, versionsIn};
-ghost use Rattle.device.specs.Answers.{resList, deviceAnswer, whyDevice};
+ghost use Rattle.device.specs.Answers.{resOfList, answerOfDevice, whyDevice};
 
 // How many addresses and versions there are.
 pub enum DeviceAnswer {
@@ -67,7 +67,7 @@ const NO_VERSION: Version = Version {
 };
 
 fn read_addresses(s: &[u8], c: Cursor) -> AddressList
-    ensures { λ r. ⌜ resList (r .places) (r .answer) ≡ listAt addressAt blankAddress (now (s .entry)) (c .at) ⌝ }
+    ensures { λ r. ⌜ resOfList (r .places) (r .answer) ≡ listAt addressAt blankAddress (now (s .entry)) (c .at) ⌝ }
 {
     let mut places = [NO_ADDRESS; 8];
     let count = xdr::read_count(s, c, 1, MOST_ADDRESSES);
@@ -98,7 +98,7 @@ fn read_addresses(s: &[u8], c: Cursor) -> AddressList
 }
 
 fn read_versions(s: &[u8], c: Cursor) -> VersionList
-    ensures { λ r. ⌜ resList (r .places) (r .answer) ≡ listAt versionAt blankVersion (now (s .entry)) (c .at) ⌝ }
+    ensures { λ r. ⌜ resOfList (r .places) (r .answer) ≡ listAt versionAt blankVersion (now (s .entry)) (c .at) ⌝ }
 {
     let mut places = [NO_VERSION; 8];
     let count = xdr::read_count(s, c, 1, MOST_VERSIONS);
@@ -129,7 +129,7 @@ fn read_versions(s: &[u8], c: Cursor) -> VersionList
 }
 
 fn refuse(e: Refusal) -> DeviceRead
-    ensures { λ r. ⌜ (deviceAnswer r ≡ refused (numberOf e)) × (r .addresses ≡ replicate 8 blankAddress) × (r .versions ≡ replicate 8 blankVersion) ⌝ }
+    ensures { λ r. ⌜ (answerOfDevice r ≡ refused (numberOf e)) × (r .addresses ≡ replicate 8 blankAddress) × (r .versions ≡ replicate 8 blankVersion) ⌝ }
 {
     DeviceRead {
         answer: DeviceAnswer::Refused(e),
@@ -139,7 +139,7 @@ fn refuse(e: Refusal) -> DeviceRead
 }
 
 pub fn read_device(s: &[u8]) -> DeviceRead
-    ensures { λ r. ⌜ (deviceAnswer r ≡ deviceBody (now (s .entry))) × (r .addresses ≡ addressesIn (deviceBody (now (s .entry)))) × (r .versions ≡ versionsIn (deviceBody (now (s .entry)))) ⌝ }
+    ensures { λ r. ⌜ (answerOfDevice r ≡ deviceBody (now (s .entry))) × (r .addresses ≡ addressesIn (deviceBody (now (s .entry)))) × (r .versions ≡ versionsIn (deviceBody (now (s .entry)))) ⌝ }
 {
     if LONGEST < s.len() {
         return refuse(Refusal::OutsideLimit);

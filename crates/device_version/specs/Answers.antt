@@ -7,9 +7,9 @@ use Rattle.device_version.specs.declared.version.Version.{Version}
 use Rattle.device_version.specs.declared.version.ReadVersion.{ReadVersion}
 use Rattle.device_version.specs.declared.version.ReadVersion.the-variants as version
 
-abbrev pub resVersion : ReadVersion → Res Version
-resVersion (version.Value v c) = ok v (c .at)
-resVersion (version.Refused e) = no (numberOf e)
+abbrev pub resOfVersion : ReadVersion → Res Version
+resOfVersion (version.Value v c) = ok v (c .at)
+resOfVersion (version.Refused e) = no (numberOf e)
 
 -- The refusal in an answer; of an answer with a value, the first of the refusals.
 abbrev pub whyVersion : ReadVersion → Refusal

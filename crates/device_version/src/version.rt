@@ -5,7 +5,7 @@ use xdr::ReadBool;
 use xdr::ReadU32;
 ghost use mathlib.Core.Path.{_≡_};
 ghost use Rattle.device_version.specs.Versions.{versionAt, versionFits};
-ghost use Rattle.device_version.specs.Answers.{resVersion, whyVersion};
+ghost use Rattle.device_version.specs.Answers.{resOfVersion, whyVersion};
 
 pub struct Version {
     pub version: u32,
@@ -39,7 +39,7 @@ fn version_fits(v: Version) -> bool
 
 // All five fields are read before the entry is judged.
 pub fn read_version(s: &[u8], c: Cursor) -> ReadVersion
-    ensures { λ r. ⌜ resVersion r ≡ versionAt (now (s .entry)) (c .at) ⌝ }
+    ensures { λ r. ⌜ resOfVersion r ≡ versionAt (now (s .entry)) (c .at) ⌝ }
 {
     let r1 = xdr::read_u32(s, c);
     let ReadU32::Value(version, c1) = r1 else {

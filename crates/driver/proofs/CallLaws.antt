@@ -10,7 +10,7 @@ use Rattle.record.specs.declared.from.Taken.{Taken}
 use Rattle.record.specs.declared.types.TableRecord.{TableRecord}
 use Rattle.record.proofs.RecordLaws.{no-table-in, table-in}
 use Rattle.reference.specs.Model.{Event}
-use Rattle.events.specs.Answers.{leftOf, numberOfVerdict}
+use Rattle.events.specs.Answers.{resultOf, numberOfVerdict}
 use Rattle.events.specs.Events.{called}
 use Rattle.events.specs.declared.outcome.Outcome.{Outcome}
 use Rattle.route.specs.Answers.{answerOfLocated}
@@ -18,18 +18,18 @@ use Rattle.route.specs.Routes.{routed}
 use Rattle.route.specs.declared.piece.Located.{Located}
 use Rattle.driver.specs.declared.event.EventResult.{EventResult}
 use Rattle.driver.specs.declared.io.LocateResult.{LocateResult}
-use Rattle.driver.specs.Calls.{calledOn, leftRecord, locateResult, recorded, routedOn}
+use Rattle.driver.specs.Calls.{calledOn, recordResultOf, locateResult, recorded, routedOn}
 
 module _ (r : TableRecord) (x : Taken) (p : x ≡ takenOf (tableIn r)) (store : List ℕ) where
   module _ (e : Event) (y : EventResult) where
-    pub not-called : x .fits ≡ false → y ≡ record { refusal = 20; table = r } → leftRecord y store ≡ calledOn e r store
+    pub not-called : x .fits ≡ false → y ≡ record { refusal = 20; table = r } → recordResultOf y store ≡ calledOn e r store
     unfolding calledOn
-    not-called f q = ap (λ (z : EventResult). leftRecord z store) q ∙ rw (no-table-in r x p f)
+    not-called f q = ap (λ (z : EventResult). recordResultOf z store) q ∙ rw (no-table-in r x p f)
 
-    pub was-called : x .fits ≡ true → (o : Outcome) (after : List ℕ) → leftOf o after ≡ called e (x .table) store
-        → y ≡ record { refusal = numberOfVerdict (o .verdict); table = recordOf (o .table) } → leftRecord y after ≡ calledOn e r store
+    pub was-called : x .fits ≡ true → (o : Outcome) (after : List ℕ) → resultOf o after ≡ called e (x .table) store
+        → y ≡ record { refusal = numberOfVerdict (o .verdict); table = recordOf (o .table) } → recordResultOf y after ≡ calledOn e r store
     unfolding calledOn
-    was-called f o after h q = ap (λ (z : EventResult). leftRecord z after) q ∙ rw (table-in r x p f) (ap recorded h)
+    was-called f o after h q = ap (λ (z : EventResult). recordResultOf z after) q ∙ rw (table-in r x p f) (ap recorded h)
 
   module _ (write : Bool) (offset len : ℕ) (y : LocateResult) where
     pub not-routed : x .fits ≡ false → y ≡ locateResult (refused 20) → y ≡ routedOn write r store offset len

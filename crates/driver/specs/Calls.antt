@@ -10,7 +10,7 @@ use Rattle.segments.specs.declared.Table.{Table}
 use Rattle.record.specs.Records.{recordOf, tableIn}
 use Rattle.record.specs.declared.types.TableRecord.{TableRecord}
 use Rattle.reference.specs.Model.{Event}
-use Rattle.reference.specs.Claim.{Left}
+use Rattle.reference.specs.Claim.{CallResult}
 use Rattle.events.specs.Events.{called}
 use Rattle.route.specs.Routes.{routed}
 use Rattle.route.specs.declared.piece.Piece.{Piece}
@@ -23,23 +23,23 @@ abbrev pub emptyRecord : TableRecord
 emptyRecord = recordOf emptyTable
 
 -- what a call leaves: the refusal's number or 0, the record given back, the store
-pub record RecordLeft : Type 0 where
+pub record RecordResult : Type 0 where
   pub refusal : ℕ
   pub table : TableRecord
   pub store : List ℕ
 
-abbrev pub leftRecord : EventResult → List ℕ → RecordLeft
-leftRecord r store = record { refusal = r .refusal; table = r .table; store = store }
+abbrev pub recordResultOf : EventResult → List ℕ → RecordResult
+recordResultOf r store = record { refusal = r .refusal; table = r .table; store = store }
 
-abbrev pub recorded : Left → RecordLeft
+abbrev pub recorded : CallResult → RecordResult
 recorded l = record { refusal = l .answer; table = recordOf (l .table); store = l .store }
 
 -- a record that is no table is given back as it is
-abbrev pub calledWith : Answer Table → Event → TableRecord → List ℕ → RecordLeft
+abbrev pub calledWith : Answer Table → Event → TableRecord → List ℕ → RecordResult
 calledWith (accepted t) e r store = recorded (called e t store)
 calledWith (refused n) e r store = record { refusal = n; table = r; store = store }
 
-unfoldable pub calledOn : Event → TableRecord → List ℕ → RecordLeft
+unfoldable pub calledOn : Event → TableRecord → List ℕ → RecordResult
 calledOn e r store = calledWith (tableIn r) e r store
 
 -- ---- where an I/O goes

@@ -7,7 +7,7 @@ ghost use mathlib.Core.Path.{_≡_};
 ghost use Rattle.record.specs.Records.{recordOf};
 ghost use Rattle.reference.specs.Model.{Grant, Recall, Return, Revoke};
 ghost use Rattle.events.specs.Answers.{numberOfVerdict};
-ghost use Rattle.driver.specs.Calls.{calledOn, emptyRecord, leftRecord};
+ghost use Rattle.driver.specs.Calls.{calledOn, emptyRecord, recordResultOf};
 
 #[repr(C)]
 pub struct EventResult {
@@ -57,7 +57,7 @@ pub extern "C" fn basilothyn_grant(
     store: &mut [u8],
     bytes: &[u8],
 ) -> EventResult
-    ensures { λ r. ⌜ leftRecord r (now (store .exit)) ≡ calledOn (Grant (now (bytes .entry))) table (now (store .entry)) ⌝ }
+    ensures { λ r. ⌜ recordResultOf r (now (store .exit)) ≡ calledOn (Grant (now (bytes .entry))) table (now (store .entry)) ⌝ }
 {
     let taken = record::table_of(table);
     if !taken.fits {
@@ -75,7 +75,7 @@ pub extern "C" fn basilothyn_return(
     len: u64,
     iomode: u32,
 ) -> EventResult
-    ensures { λ r. ⌜ leftRecord r (now (store .exit)) ≡ calledOn (Return offset len iomode) table (now (store .entry)) ⌝ }
+    ensures { λ r. ⌜ recordResultOf r (now (store .exit)) ≡ calledOn (Return offset len iomode) table (now (store .entry)) ⌝ }
 {
     let taken = record::table_of(table);
     if !taken.fits {
@@ -93,7 +93,7 @@ pub extern "C" fn basilothyn_recall(
     len: u64,
     iomode: u32,
 ) -> EventResult
-    ensures { λ r. ⌜ leftRecord r (now (store .exit)) ≡ calledOn (Recall offset len iomode) table (now (store .entry)) ⌝ }
+    ensures { λ r. ⌜ recordResultOf r (now (store .exit)) ≡ calledOn (Recall offset len iomode) table (now (store .entry)) ⌝ }
 {
     let taken = record::table_of(table);
     if !taken.fits {
@@ -105,7 +105,7 @@ pub extern "C" fn basilothyn_recall(
 
 #[no_mangle]
 pub extern "C" fn basilothyn_revoke(table: TableRecord, store: &mut [u8]) -> EventResult
-    ensures { λ r. ⌜ leftRecord r (now (store .exit)) ≡ calledOn Revoke table (now (store .entry)) ⌝ }
+    ensures { λ r. ⌜ recordResultOf r (now (store .exit)) ≡ calledOn Revoke table (now (store .entry)) ⌝ }
 {
     let taken = record::table_of(table);
     if !taken.fits {

@@ -4,8 +4,8 @@ use report::ReportHead;
 use report_write::Written;
 ghost use mathlib.Core.Path.{_≡_};
 ghost use lib.ListN.{length};
-ghost use Rattle.report_write.specs.Writing.{after, reportsWritten};
-ghost use Rattle.report_write.specs.Answers.{answerWritten, lengthOf};
+ghost use Rattle.report_write.specs.Writing.{outputAfter, reportsWritten};
+ghost use Rattle.report_write.specs.Answers.{answerOfWritten, lengthOf};
 ghost use Rattle.error_list.specs.Records.{recordsOf};
 ghost use Rattle.driver.specs.ReportCalls.{writeResult};
 
@@ -23,7 +23,7 @@ pub struct WriteResult {
 }
 
 fn result_of(w: Written) -> WriteResult
-    ensures { λ r. ⌜ r ≡ writeResult (answerWritten w) ⌝ }
+    ensures { λ r. ⌜ r ≡ writeResult (answerOfWritten w) ⌝ }
 {
     match w {
         Written::Length(n) => WriteResult {
@@ -46,7 +46,7 @@ pub extern "C" fn basilothyn_write_report(
     out: &mut [u8],
 ) -> WriteResult
     ensures { λ r. ⌜ (r ≡ writeResult (lengthOf (reportsWritten count (heads .heads) (recordsOf (now (errors .entry))) (length (now (out .entry))))))
-        × (now (out .exit) ≡ after (now (out .entry)) (reportsWritten count (heads .heads) (recordsOf (now (errors .entry))) (length (now (out .entry))))) ⌝ }
+        × (now (out .exit) ≡ outputAfter (now (out .entry)) (reportsWritten count (heads .heads) (recordsOf (now (errors .entry))) (length (now (out .entry))))) ⌝ }
 {
     let written = error_list::write_error_list(count, heads.heads, errors, out);
     result_of(written)

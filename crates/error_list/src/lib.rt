@@ -5,8 +5,8 @@ ghost use mathlib.Core.Path.{_≡_};
 ghost use mathlib.Core.List.{[], _∷_, _++_};
 ghost use Prim.Native.Nat.{_+_, _*_, _≤_, min};
 ghost use lib.ListN.{length, take};
-ghost use Rattle.report_write.specs.Writing.{after, recordsFrom, reportsWritten};
-ghost use Rattle.report_write.specs.Answers.{answerWritten, lengthOf};
+ghost use Rattle.report_write.specs.Writing.{outputAfter, recordsFrom, reportsWritten};
+ghost use Rattle.report_write.specs.Answers.{answerOfWritten, lengthOf};
 ghost use Rattle.error_list.specs.Records.{recordOf, recordsOf};
 
 // One error of the list, laid out as a caller in C lays it out.
@@ -57,8 +57,8 @@ fn write_wire(
     records: [u8; 3072],
     out: &mut [u8],
 ) -> Written
-    ensures { λ r. ⌜ (answerWritten r ≡ lengthOf (reportsWritten count heads (recordsFrom «list_length» 0 records) (length (now (out .entry)))))
-        × (now (out .exit) ≡ after (now (out .entry)) (reportsWritten count heads (recordsFrom «list_length» 0 records) (length (now (out .entry))))) ⌝ }
+    ensures { λ r. ⌜ (answerOfWritten r ≡ lengthOf (reportsWritten count heads (recordsFrom «list_length» 0 records) (length (now (out .entry)))))
+        × (now (out .exit) ≡ outputAfter (now (out .entry)) (reportsWritten count heads (recordsFrom «list_length» 0 records) (length (now (out .entry))))) ⌝ }
 {
     report_write::write_reports(count, heads, list_length, &records, out)
 }
@@ -70,8 +70,8 @@ pub fn write_error_list(
     errors: &[ErrorRecord],
     out: &mut [u8],
 ) -> Written
-    ensures { λ r. ⌜ (answerWritten r ≡ lengthOf (reportsWritten count heads (recordsOf (now (errors .entry))) (length (now (out .entry)))))
-        × (now (out .exit) ≡ after (now (out .entry)) (reportsWritten count heads (recordsOf (now (errors .entry))) (length (now (out .entry))))) ⌝ }
+    ensures { λ r. ⌜ (answerOfWritten r ≡ lengthOf (reportsWritten count heads (recordsOf (now (errors .entry))) (length (now (out .entry)))))
+        × (now (out .exit) ≡ outputAfter (now (out .entry)) (reportsWritten count heads (recordsOf (now (errors .entry))) (length (now (out .entry))))) ⌝ }
 {
     let n = records_used(errors.len());
     let mut records = [0u8; 3072];

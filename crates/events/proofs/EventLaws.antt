@@ -24,26 +24,26 @@ use Rattle.slots.specs.declared.home.Home.{Home}
 use Rattle.slots.specs.Slots.{clearedFrom, homeOf}
 use Rattle.events.specs.declared.outcome.Outcome.{Outcome}
 use Rattle.events.specs.declared.outcome.Verdict.the-variants.{Accepted, Refused}
-use Rattle.events.specs.Answers.{leftOf}
+use Rattle.events.specs.Answers.{resultOf}
 use Rattle.events.specs.Events as calls
 use Rattle.events.specs.Events.{afterGrant, called, carried, elsewhere, grantedAt, obeyed, refusedWith, settled}
 
 module _ (t : Table) (store : List ℕ) where
-  pub refused-left : (o : Outcome) (e : Refusal) → o ≡ record { verdict = Refused e; table = t } → leftOf o store ≡ refusedWith (numberOf e) t store
-  refused-left o e h = ap (λ (o : Outcome). leftOf o store) h
+  pub refused-left : (o : Outcome) (e : Refusal) → o ≡ record { verdict = Refused e; table = t } → resultOf o store ≡ refusedWith (numberOf e) t store
+  refused-left o e h = ap (λ (o : Outcome). resultOf o store) h
 
   -- ---- the edit
 
   module _ (c : Change) (i : Iomode) (first last : ℕ) (filled : List ℕ) (e : EditedTable) (edited : e ≡ tableEdited c i first last t) where
     pub does-not-fit : (o : Outcome) → e .fits ≡ false → o ≡ record { verdict = Refused TooManySegments; table = t }
-        → leftOf o store ≡ carried c i first last t store filled
+        → resultOf o store ≡ carried c i first last t store filled
     unfolding carried settled pick
     does-not-fit o f h = rw (← edited, f) (refused-left o TooManySegments h)
 
     pub is-done : (o : Outcome) (after : List ℕ) → e .fits ≡ true → o ≡ record { verdict = Accepted; table = e .table }
-        → after ≡ clearedFrom t (e .table) 8 0 filled → leftOf o after ≡ carried c i first last t store filled
+        → after ≡ clearedFrom t (e .table) 8 0 filled → resultOf o after ≡ carried c i first last t store filled
     unfolding carried settled pick
-    is-done o after f h k = rw (← edited, f) (λ j. leftOf (h j) (k j))
+    is-done o after f h k = rw (← edited, f) (λ j. resultOf (h j) (k j))
 
   -- ---- the tests
 

@@ -16,7 +16,7 @@ ghost use Rattle.store.specs.Store.{holds, slotSet};
 ghost use Rattle.reference.specs.Model.{Grant};
 ghost use Rattle.reference.specs.Sound.{slotsIn};
 ghost use Rattle.slots.specs.Slots.{homeOf};
-ghost use Rattle.events.specs.Answers.{leftOf};
+ghost use Rattle.events.specs.Answers.{resultOf};
 ghost use Rattle.events.specs.Events.{afterGrant, called, carried, elsewhere, grantedAt};
 ghost use Rattle.table.specs.declared.change.Change.the-variants as change;
 
@@ -41,7 +41,7 @@ fn grant_new(
     first: u64,
     last: u64,
 ) -> Outcome
-    ensures { λ r. ⌜ leftOf r (now (store .exit))
+    ensures { λ r. ⌜ resultOf r (now (store .exit))
         ≡ carried (change.Grant s) iomode first last t (now (store .entry)) (slotSet (now (store .entry)) (s .0) (holds (now (body .entry)))) ⌝ }
 {
     let e = table::edit_table(t, iomode, Change::Grant(s), first, last);
@@ -63,7 +63,7 @@ fn grant_at(
     first: u64,
     last: u64,
 ) -> Outcome
-    ensures { λ r. ⌜ leftOf r (now (store .exit)) ≡ grantedAt h (now (body .entry)) iomode first last t (now (store .entry)) ⌝ }
+    ensures { λ r. ⌜ resultOf r (now (store .exit)) ≡ grantedAt h (now (body .entry)) iomode first last t (now (store .entry)) ⌝ }
 {
     match h {
         Home::Old(s) => carry_out(t, store, Change::Grant(s), iomode, first, last),
@@ -80,7 +80,7 @@ fn grant_body(
     first: u64,
     last: u64,
 ) -> Outcome
-    ensures { λ r. ⌜ leftOf r (now (store .exit))
+    ensures { λ r. ⌜ resultOf r (now (store .exit))
         ≡ afterGrant (homeOf (now (body .entry)) (slotsIn t (now (store .entry)))) (now (body .entry)) iomode first last t (now (store .entry)) ⌝ }
 {
     let h = slots::find_home(t, store, body);
@@ -96,7 +96,7 @@ fn grant_body(
 
 // "A grant makes its range granted."
 pub fn grant(t: Table, store: &mut [u8], bytes: &[u8]) -> Outcome
-    ensures { λ r. ⌜ leftOf r (now (store .exit)) ≡ called (Grant (now (bytes .entry))) t (now (store .entry)) ⌝ }
+    ensures { λ r. ⌜ resultOf r (now (store .exit)) ≡ called (Grant (now (bytes .entry))) t (now (store .entry)) ⌝ }
 {
     if !soundness::sound(t, store) {
         return refused(t, Refusal::Unsound);

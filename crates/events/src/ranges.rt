@@ -12,12 +12,12 @@ use segments::Table;
 use table::Change;
 ghost use mathlib.Core.Path.{_≡_};
 ghost use Rattle.reference.specs.Model.{Recall, Return, Revoke};
-ghost use Rattle.events.specs.Answers.{leftOf};
+ghost use Rattle.events.specs.Answers.{resultOf};
 ghost use Rattle.events.specs.Events.{afterRecall, called};
 
 // "A return makes its range none; a return of bytes not held is accepted."
 pub fn layout_return(t: Table, store: &mut [u8], offset: u64, len: u64, iomode: u32) -> Outcome
-    ensures { λ r. ⌜ leftOf r (now (store .exit)) ≡ called (Return offset len iomode) t (now (store .entry)) ⌝ }
+    ensures { λ r. ⌜ resultOf r (now (store .exit)) ≡ called (Return offset len iomode) t (now (store .entry)) ⌝ }
 {
     if !soundness::sound(t, store) {
         return refused(t, Refusal::Unsound);
@@ -31,7 +31,7 @@ pub fn layout_return(t: Table, store: &mut [u8], offset: u64, len: u64, iomode: 
 }
 
 fn recall_range(t: Table, store: &mut [u8], iomode: Iomode, first: u64, last: u64) -> Outcome
-    ensures { λ r. ⌜ leftOf r (now (store .exit)) ≡ afterRecall iomode first last t (now (store .entry)) ⌝ }
+    ensures { λ r. ⌜ resultOf r (now (store .exit)) ≡ afterRecall iomode first last t (now (store .entry)) ⌝ }
 {
     if !lookup::meets(t, iomode, first, last, Condition::Held) {
         return refused(t, Refusal::NothingHeld);
@@ -41,7 +41,7 @@ fn recall_range(t: Table, store: &mut [u8], iomode: Iomode, first: u64, last: u6
 
 // "A recall turns granted into recalled and nothing else."
 pub fn recall(t: Table, store: &mut [u8], offset: u64, len: u64, iomode: u32) -> Outcome
-    ensures { λ r. ⌜ leftOf r (now (store .exit)) ≡ called (Recall offset len iomode) t (now (store .entry)) ⌝ }
+    ensures { λ r. ⌜ resultOf r (now (store .exit)) ≡ called (Recall offset len iomode) t (now (store .entry)) ⌝ }
 {
     if !soundness::sound(t, store) {
         return refused(t, Refusal::Unsound);
@@ -56,7 +56,7 @@ pub fn recall(t: Table, store: &mut [u8], offset: u64, len: u64, iomode: u32) ->
 
 // "A revoke makes every byte none in both iomodes."
 pub fn revoke(t: Table, store: &mut [u8]) -> Outcome
-    ensures { λ r. ⌜ leftOf r (now (store .exit)) ≡ called Revoke t (now (store .entry)) ⌝ }
+    ensures { λ r. ⌜ resultOf r (now (store .exit)) ≡ called Revoke t (now (store .entry)) ⌝ }
 {
     if !soundness::sound(t, store) {
         return refused(t, Refusal::Unsound);

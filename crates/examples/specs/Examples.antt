@@ -36,10 +36,6 @@ Holds (Write b rw offset len answer) =
 Holds (Range offset len last) = rangeLast offset len ≡ last
 Holds (NoReport bytes) = reportsWritten 0 [] [] 4096 ≡ accepted bytes
 
-abbrev pub AllHold : List Example → Type 0
-AllHold [] = Unit {0}
-AllHold (e ∷ es) = Holds e × AllHold es
-
 abbrev pub examples : List Example
 examples =
     -- "Unit 4,096, 3 servers: offset 4,095, length 2 gives stripe 0, piece 1."

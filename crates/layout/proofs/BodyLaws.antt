@@ -13,7 +13,7 @@ use Rattle.layout.specs.Layouts.{Layout, frontAt, layoutAt, layoutBody, 
 use Rattle.layout.specs.declared.ends.Front.{Front}
 use Rattle.layout.specs.declared.ends.Tail.{Tail}
 use Rattle.layout.specs.declared.body.Summary.{Summary}
-use Rattle.layout.specs.Answers.{layoutAnswer, startsIn}
+use Rattle.layout.specs.Answers.{answerOfLayout, startsIn}
 use Rattle.layout.specs.declared.body.LayoutAnswer.{LayoutAnswer}
 use Rattle.layout.specs.declared.body.LayoutAnswer.the-variants.{Value, Refused}
 
@@ -35,7 +35,7 @@ all-read s l p h e k = rw (le-leb _ _ h, e, eq-eqb _ _ k)
 
 -- both parts of the reader's contract after a refusal
 pub refused-whole : (a : LayoutAnswer) (t : List ℕ) (e : Refusal) (x : Answer Layout)
-    → a ≡ Refused e → t ≡ replicate 128 0 → x ≡ refused (numberOf e) → (layoutAnswer a t ≡ x) × (t ≡ startsIn x)
+    → a ≡ Refused e → t ≡ replicate 128 0 → x ≡ refused (numberOf e) → (answerOfLayout a t ≡ x) × (t ≡ startsIn x)
 unfolding startsIn
 refused-whole a t e x h k q = (rw (h, q), rw (k, q))
 
@@ -52,6 +52,6 @@ layout-parts s front p1 ms p2 tail p3 f m t = rw (f, m, t)
 
 -- both parts of the reader's contract where the body is accepted
 pub accepted-whole : (a : Summary) (t filled : List ℕ) (x : Answer Layout)
-    → filled ≡ t → x ≡ accepted (record { summary = a; starts = filled }) → (layoutAnswer (Value a) t ≡ x) × (t ≡ startsIn x)
+    → filled ≡ t → x ≡ accepted (record { summary = a; starts = filled }) → (answerOfLayout (Value a) t ≡ x) × (t ≡ startsIn x)
 unfolding startsIn
 accepted-whole a t filled x h q = (rw (q, h), rw (q, h))

@@ -2,17 +2,16 @@
 use Prim.Native.Nat.{ℕ, zero, suc, _+_, _-_, _*_, _≤_, _<_}
 use mathlib.Core.Path.{_≡_, refl, sym, ap, _∙_}
 use mathlib.Core.Logic.{_⊎_, ⊎-elim}
-use mathlib.Core.Bool.{Bool, true, false}
+use mathlib.Core.Bool.{true}
 use mathlib.Core.List.{List, [], _∷_, _++_, map}
 use native.Mathlib.Omega.{arith}
-use borrow.Author.Tests.{eqb-true}
-use lib.Dec.{eqb}
 use lib.ListN.{length, getD, replicate, length-append, length-map, length-replicate, List·getD-append, List·getD-eq-default}
 use lib.Seq.{getD-append-add}
-use Rattle.base.specs.Answer.{Answer, accepted, refused, pick}
+use Rattle.base.specs.Answer.{accepted}
 use Rattle.base.specs.Lists.{padded}
-use Rattle.xdr.specs.Res.{Res, ok, no, manyAt, whole}
-use Rattle.xdr.proofs.Accepted.{passed, ran, same-place, same-value}
+use Rattle.base.proofs.AnswerLaws.{pick-accepted}
+use Rattle.xdr.specs.Res.{ok, manyAt, whole}
+use Rattle.xdr.proofs.Accepted.{passed, ran, same-place, same-value, whole-read}
 use Rattle.server.specs.Servers.{serverAt}
 use Rattle.server.specs.declared.item.Server.{Server}
 use Rattle.server.proofs.ServerLaws.{server-read}
@@ -23,9 +22,6 @@ use Rattle.layout.proofs.FrontLaws.{front-read}
 use Rattle.layout.proofs.TableLaws.{EachHas, mirrors-have}
 
 -- ---- the parts of an accepted body
-
-never-accepted : {A B : Type 0} (n : ℕ) (a : A) → refused n ≡ accepted a → B
-never-accepted n a e = let z : _≡_ {A = ℕ} 0 1 = cc in absurd (omega arith)
 
 pub record Parts (s : List ℕ) (l : Layout) : Type 0 where
   pub front : Front
@@ -41,23 +37,10 @@ pub record Parts (s : List ℕ) (l : Layout) : Type 0 where
     starts = startsOf mirrors;
   } ≡ l
 
-read-whole : (s : List ℕ) (x : Res Layout) (l : Layout) → whole s x ≡ accepted l → x ≡ ok l (length s)
-unfolding whole pick
-read-whole s (ok a p) l e = go (eqb p (length s)) refl e where
-  go : (t : Bool) → eqb p (length s) ≡ t → pick t (accepted a) (refused 2) ≡ accepted l → ok a p ≡ ok l (length s)
-  go true h k = let f : a ≡ l = cc in let g : p ≡ length s = eqb-true p (length s) h in rw (f, g)
-  go false h k = never-accepted 2 l k
-read-whole s (no n) l e = never-accepted n l e
-
-small-whole : (t : Bool) (x : Answer Layout) (l : Layout) → pick t x (refused 8) ≡ accepted l → x ≡ accepted l
-unfolding pick
-small-whole true x l e = e
-small-whole false x l e = never-accepted 8 l e
-
 pub accepted-parts : (s : List ℕ) (l : Layout) → layoutBody s ≡ accepted l → Parts s l
 unfolding layoutBody layoutAt
 accepted-parts s l e =
-    let w = read-whole s (layoutAt s) l (small-whole _ _ l e) in
+    let w = whole-read s (layoutAt s) l (pick-accepted _ _ 8 l e .1) in
     let f = ran _ _ l (length s) w in
     let m = ran _ _ l (length s) (f .rest) in
     let t = ran _ _ l (length s) (m .rest) in

@@ -17,25 +17,25 @@ use Rattle.layout.specs.declared.ends.ReadTail.the-variants as tail
 use Rattle.layout.specs.declared.body.LayoutAnswer.{LayoutAnswer}
 use Rattle.layout.specs.declared.body.LayoutAnswer.the-variants as layout
 
-abbrev pub resFront : ReadFront → Res Front
-resFront (front.Value f c) = ok f (c .at)
-resFront (front.Refused e) = no (numberOf e)
+abbrev pub resOfFront : ReadFront → Res Front
+resOfFront (front.Value f c) = ok f (c .at)
+resOfFront (front.Refused e) = no (numberOf e)
 
 abbrev pub whyFront : ReadFront → Refusal
 whyFront (front.Value f c) = BytesRunOut
 whyFront (front.Refused e) = e
 
-abbrev pub resTail : ReadTail → Res Tail
-resTail (tail.Value t c) = ok t (c .at)
-resTail (tail.Refused e) = no (numberOf e)
+abbrev pub resOfTail : ReadTail → Res Tail
+resOfTail (tail.Value t c) = ok t (c .at)
+resOfTail (tail.Refused e) = no (numberOf e)
 
 abbrev pub whyTail : ReadTail → Refusal
 whyTail (tail.Value t c) = BytesRunOut
 whyTail (tail.Refused e) = e
 
-abbrev pub layoutAnswer : LayoutAnswer → List ℕ → Answer Layout
-layoutAnswer (layout.Value summary) starts = accepted (record { summary = summary; starts = starts })
-layoutAnswer (layout.Refused e) starts = refused (numberOf e)
+abbrev pub answerOfLayout : LayoutAnswer → List ℕ → Answer Layout
+answerOfLayout (layout.Value summary) starts = accepted (record { summary = summary; starts = starts })
+answerOfLayout (layout.Refused e) starts = refused (numberOf e)
 
 abbrev pub whyLayout : LayoutAnswer → Refusal
 whyLayout (layout.Value summary) = BytesRunOut

@@ -9,9 +9,9 @@ use Rattle.server.specs.declared.handles.ReadEnd.{ReadEnd}
 use Rattle.server.specs.declared.handles.ReadEnd.the-variants.{Value, Refused}
 
 -- the table and the place behind what was read; a refusal says nothing of the table
-abbrev pub resStarts : ReadEnd → List ℕ → Res (List ℕ)
-resStarts (Value c) table = ok table (c .at)
-resStarts (Refused e) table = no (numberOf e)
+abbrev pub resOfStarts : ReadEnd → List ℕ → Res (List ℕ)
+resOfStarts (Value c) table = ok table (c .at)
+resOfStarts (Refused e) table = no (numberOf e)
 
 -- the starts of a mirror's servers from the index k on
 unfoldable pub withServers : ℕ → Res (List Server) → List ℕ → Res (List ℕ)

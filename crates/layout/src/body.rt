@@ -12,7 +12,7 @@ use xdr::Cursor;
 ghost use mathlib.Core.Path.{_≡_};
 ghost use lib.ListN.{replicate};
 ghost use Rattle.layout.specs.Layouts.{layoutBody};
-ghost use Rattle.layout.specs.Answers.{layoutAnswer, startsIn, whyLayout};
+ghost use Rattle.layout.specs.Answers.{answerOfLayout, startsIn, whyLayout};
 
 pub struct Summary {
     pub unit: u64,
@@ -43,7 +43,7 @@ fn refused(e: Refusal) -> LayoutRead
 }
 
 pub fn read_layout(s: &[u8]) -> LayoutRead
-    ensures { λ r. ⌜ (layoutAnswer (r .answer) (r .starts) ≡ layoutBody (now (s .entry)))
+    ensures { λ r. ⌜ (answerOfLayout (r .answer) (r .starts) ≡ layoutBody (now (s .entry)))
         × (r .starts ≡ startsIn (layoutBody (now (s .entry)))) ⌝ }
 {
     if 4090 < s.len() {

@@ -5,7 +5,7 @@ use xdr::ReadU32;
 use xdr::ReadU64;
 ghost use mathlib.Core.Path.{_≡_};
 ghost use Rattle.layout.specs.Layouts.{frontAt, tailAt, unitFits};
-ghost use Rattle.layout.specs.Answers.{resFront, resTail, whyFront, whyTail};
+ghost use Rattle.layout.specs.Answers.{resOfFront, resOfTail, whyFront, whyTail};
 
 // The stripe unit, the mirror count and the first mirror's server count.
 pub struct Front {
@@ -39,7 +39,7 @@ fn unit_fits(unit: u64, servers: u32) -> bool
 }
 
 pub(crate) fn read_front(s: &[u8], c: Cursor) -> ReadFront
-    ensures { λ r. ⌜ resFront r ≡ frontAt (now (s .entry)) (c .at) ⌝ }
+    ensures { λ r. ⌜ resOfFront r ≡ frontAt (now (s .entry)) (c .at) ⌝ }
 {
     let u = xdr::read_u64(s, c);
     let ReadU64::Value(unit, c1) = u else {
@@ -67,7 +67,7 @@ pub(crate) fn read_front(s: &[u8], c: Cursor) -> ReadFront
 }
 
 pub(crate) fn read_tail(s: &[u8], c: Cursor) -> ReadTail
-    ensures { λ r. ⌜ resTail r ≡ tailAt (now (s .entry)) (c .at) ⌝ }
+    ensures { λ r. ⌜ resOfTail r ≡ tailAt (now (s .entry)) (c .at) ⌝ }
 {
     let f = xdr::read_u32(s, c);
     let ReadU32::Value(flags, c1) = f else {

@@ -10,12 +10,12 @@ ghost use lib.ListN.{length};
 ghost use Rattle.server.specs.Servers.{serverAt};
 ghost use Rattle.xdr.specs.Res.{manyAt};
 ghost use Rattle.layout.specs.Layouts.{mirrorAt, mirrorsAt};
-ghost use Rattle.layout.specs.Starts.{resStarts, withServers, withMirrors};
+ghost use Rattle.layout.specs.Starts.{resOfStarts, withServers, withMirrors};
 
 // n servers, their starts from the index first on.
 fn read_servers(s: &[u8], c: Cursor, n: u32, first: usize, starts: &mut [u16; 128]) -> ReadEnd
     requires { ⌜ (length (now s) ≤ 4090) × (c .at ≤ length (now s)) × (first + n ≤ 128) ⌝ }
-    ensures { λ r. ⌜ resStarts r (now (starts .exit)) ≡ withServers first (manyAt serverAt n (now (s .entry)) (c .at)) (now (starts .entry)) ⌝ }
+    ensures { λ r. ⌜ resOfStarts r (now (starts .exit)) ≡ withServers first (manyAt serverAt n (now (s .entry)) (c .at)) (now (starts .entry)) ⌝ }
 {
     let mut d = c;
     let mut left = n;
@@ -37,7 +37,7 @@ fn read_servers(s: &[u8], c: Cursor, n: u32, first: usize, starts: &mut [u16; 12
 // A mirror behind the first: its count, then its n servers.
 fn read_mirror(s: &[u8], c: Cursor, n: u32, first: usize, starts: &mut [u16; 128]) -> ReadEnd
     requires { ⌜ (length (now s) ≤ 4090) × (first + n ≤ 128) ⌝ }
-    ensures { λ r. ⌜ resStarts r (now (starts .exit)) ≡ withServers first (mirrorAt n (now (s .entry)) (c .at)) (now (starts .entry)) ⌝ }
+    ensures { λ r. ⌜ resOfStarts r (now (starts .exit)) ≡ withServers first (mirrorAt n (now (s .entry)) (c .at)) (now (starts .entry)) ⌝ }
 {
     let r = xdr::read_count(s, c, 1, 16);
     let ReadU32::Value(count, d) = r else {
@@ -58,7 +58,7 @@ pub(crate) fn read_mirrors(
     starts: &mut [u16; 128],
 ) -> ReadEnd
     requires { ⌜ (length (now s) ≤ 4090) × (c .at ≤ length (now s)) × (mirrors ≤ 8) × (servers ≤ 16) ⌝ }
-    ensures { λ r. ⌜ resStarts r (now (starts .exit)) ≡ withMirrors 0 (mirrorsAt mirrors servers (now (s .entry)) (c .at)) (now (starts .entry)) ⌝ }
+    ensures { λ r. ⌜ resOfStarts r (now (starts .exit)) ≡ withMirrors 0 (mirrorsAt mirrors servers (now (s .entry)) (c .at)) (now (starts .entry)) ⌝ }
 {
     let f = read_servers(s, c, servers, 0, starts);
     let ReadEnd::Value(c1) = f else {

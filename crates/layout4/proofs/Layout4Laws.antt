@@ -11,13 +11,13 @@ use Rattle.base.specs.Answer.{Answer, accepted, refused, pick}
 use Rattle.base.specs.Refusals.{numberOf}
 use Rattle.base.specs.declared.refusal.Refusal.{Refusal}
 use Rattle.numbers.specs.Numbers.{bytesFrom}
-use Rattle.xdr.specs.Res.{ok, no, then, inside, whole}
+use Rattle.xdr.specs.Res.{ok, no, then, asItem, whole}
 use Rattle.xdr.specs.Items.{bytesAt, padding}
 use Rattle.xdr.specs.declared.Part.{Part}
 use Rattle.layout.specs.Layouts.{Layout, layoutBody}
 use Rattle.layout.specs.declared.body.Summary.{Summary}
 use Rattle.layout4.specs.Layout4s.{Whole, frameAt, layout4, layout4At}
-use Rattle.layout4.specs.Answers.{layout4Answer, startsIn}
+use Rattle.layout4.specs.Answers.{answerOfLayout4, startsIn}
 use Rattle.layout4.specs.declared.frame.Frame.{Frame}
 use Rattle.layout4.specs.declared.whole.Layout4.{Layout4}
 use Rattle.layout4.specs.declared.whole.Layout4Answer.{Layout4Answer}
@@ -34,16 +34,16 @@ module _ (s : List ℕ) (frame : Frame) (p : ℕ) (framed : frameAt s 0 ≡ ok f
 
   module _ (there : leb (p + frame .size + padding (frame .size)) (length s) ≡ true) where
     pub body-refused : (n : ℕ) → layoutBody (bytesFrom (frame .size) s p) ≡ refused n → layout4 s ≡ refused n
-    unfolding layout4 layout4At then whole pick inside
+    unfolding layout4 layout4At then whole pick asItem
     body-refused n e = rw (framed, there, e)
 
     module _ (l : Layout) (body : layoutBody (bytesFrom (frame .size) s p) ≡ accepted l) where
       pub padding-refused : (n : ℕ) → bytesAt (frame .size) s p ≡ no n → layout4 s ≡ refused n
-      unfolding layout4 layout4At then whole pick inside
+      unfolding layout4 layout4At then whole pick asItem
       padding-refused n e = rw (framed, there, body, e)
 
       pub left-over : (place : Part) (q : ℕ) → bytesAt (frame .size) s p ≡ ok place q → (q ≡ length s → ⊥) → layout4 s ≡ refused 2
-      unfolding layout4 layout4At then whole pick inside
+      unfolding layout4 layout4At then whole pick asItem
       left-over place q e k = rw (framed, there, body, e, ne-eqb _ _ k)
 
       pub all-read : (place : Part) (q : ℕ) → bytesAt (frame .size) s p ≡ ok place q → q ≡ length s
@@ -58,18 +58,18 @@ module _ (s : List ℕ) (frame : Frame) (p : ℕ) (framed : frameAt s 0 ≡ ok f
             };
             body = l;
           })
-      unfolding layout4 layout4At then whole pick inside
+      unfolding layout4 layout4At then whole pick asItem
       all-read place q e k = rw (framed, there, body, e, eq-eqb _ _ k)
 
 -- both parts of the reader's contract after a refusal
 pub refused-whole : (a : Layout4Answer) (t : List ℕ) (e : Refusal) (x : Answer Whole)
-    → a ≡ Refused e → t ≡ replicate 128 0 → x ≡ refused (numberOf e) → (layout4Answer a t ≡ x) × (t ≡ startsIn x)
+    → a ≡ Refused e → t ≡ replicate 128 0 → x ≡ refused (numberOf e) → (answerOfLayout4 a t ≡ x) × (t ≡ startsIn x)
 unfolding startsIn
 refused-whole a t e x h k q = (rw (h, q), rw (k, q))
 
 -- and where it is accepted
 pub accepted-whole : (l : Layout4) (b : Summary) (t : List ℕ) (x : Answer Whole)
-    → x ≡ accepted (record { frame = l; body = record { summary = b; starts = t } }) → (layout4Answer (Value l b) t ≡ x) × (t ≡ startsIn x)
+    → x ≡ accepted (record { frame = l; body = record { summary = b; starts = t } }) → (answerOfLayout4 (Value l b) t ≡ x) × (t ≡ startsIn x)
 unfolding startsIn
 accepted-whole l b t x q = (rw q, rw q)
 

@@ -17,25 +17,25 @@ use Rattle.layout4.specs.declared.frame.ReadFrame.the-variants as frame
 use Rattle.layout4.specs.declared.whole.Layout4Answer.{Layout4Answer}
 use Rattle.layout4.specs.declared.whole.Layout4Answer.the-variants as layout4
 
-abbrev pub resRange : ReadRange → Res Range
-resRange (range.Value v c) = ok v (c .at)
-resRange (range.Refused e) = no (numberOf e)
+abbrev pub resOfRange : ReadRange → Res Range
+resOfRange (range.Value v c) = ok v (c .at)
+resOfRange (range.Refused e) = no (numberOf e)
 
 abbrev pub whyRange : ReadRange → Refusal
 whyRange (range.Value v c) = BytesRunOut
 whyRange (range.Refused e) = e
 
-abbrev pub resFrame : ReadFrame → Res Frame
-resFrame (frame.Value v c) = ok v (c .at)
-resFrame (frame.Refused e) = no (numberOf e)
+abbrev pub resOfFrame : ReadFrame → Res Frame
+resOfFrame (frame.Value v c) = ok v (c .at)
+resOfFrame (frame.Refused e) = no (numberOf e)
 
 abbrev pub whyFrame : ReadFrame → Refusal
 whyFrame (frame.Value v c) = BytesRunOut
 whyFrame (frame.Refused e) = e
 
-abbrev pub layout4Answer : Layout4Answer → List ℕ → Answer Whole
-layout4Answer (layout4.Value l summary) starts = accepted (record { frame = l; body = record { summary = summary; starts = starts } })
-layout4Answer (layout4.Refused e) starts = refused (numberOf e)
+abbrev pub answerOfLayout4 : Layout4Answer → List ℕ → Answer Whole
+answerOfLayout4 (layout4.Value l summary) starts = accepted (record { frame = l; body = record { summary = summary; starts = starts } })
+answerOfLayout4 (layout4.Refused e) starts = refused (numberOf e)
 
 abbrev pub whyLayout4 : Layout4Answer → Refusal
 whyLayout4 (layout4.Value l summary) = BytesRunOut

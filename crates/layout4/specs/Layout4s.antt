@@ -7,7 +7,7 @@ use Rattle.base.specs.Answer.{Answer, pick}
 use Rattle.base.specs.Iomodes.{grantIomodeOf}
 use Rattle.base.specs.Ranges.{rangeLast}
 use Rattle.numbers.specs.Numbers.{bytesFrom}
-use Rattle.xdr.specs.Res.{Res, ok, no, then, inside, whole}
+use Rattle.xdr.specs.Res.{Res, ok, no, then, asItem, whole}
 use Rattle.xdr.specs.Items.{bytesAt, countAt, numAt, padding}
 use Rattle.layout.specs.Layouts.{Layout, layoutBody}
 use Rattle.layout4.specs.declared.frame.Range.{Range}
@@ -19,7 +19,7 @@ unfoldable pub rangeAt : List ℕ → ℕ → Res Range
 rangeAt s at =
     then (numAt 8 s at) λ offset p1.
     then (numAt 8 s p1) λ len p2.
-    then (inside (rangeLast offset len) p2) λ last p3.
+    then (asItem (rangeLast offset len) p2) λ last p3.
     ok (record { offset = offset; length = len; last = last }) p3
 
 -- "A body length above 4,090 is refused as 8"
@@ -27,7 +27,7 @@ unfoldable pub frameAt : List ℕ → ℕ → Res Frame
 frameAt s at =
     then (rangeAt s at) λ range p1.
     then (numAt 4 s p1) λ number p2.
-    then (inside (grantIomodeOf number) p2) λ iomode p3.
+    then (asItem (grantIomodeOf number) p2) λ iomode p3.
     then (numAt 4 s p3) λ kind p4.
     pick (eqb kind 4) (then (countAt 0 4090 s p4) λ size p5. ok (record { range = range; iomode = iomode; size = size }) p5) (no 4)
 
@@ -42,7 +42,7 @@ unfoldable pub layout4At : List ℕ → Res Whole
 layout4At s =
     then (frameAt s 0) λ frame p1.
     pick (leb (p1 + frame .size + padding (frame .size)) (length s))
-    (then (inside (layoutBody (bytesFrom (frame .size) s p1)) p1) λ body p2.
+    (then (asItem (layoutBody (bytesFrom (frame .size) s p1)) p1) λ body p2.
     then (bytesAt (frame .size) s p2) λ place p3.
     ok (record {
       frame = record {

@@ -8,7 +8,7 @@ use xdr::ReadU32;
 use xdr::ReadU64;
 ghost use mathlib.Core.Path.{_≡_};
 ghost use Rattle.layout4.specs.Layout4s.{frameAt, rangeAt};
-ghost use Rattle.layout4.specs.Answers.{resFrame, resRange, whyFrame, whyRange};
+ghost use Rattle.layout4.specs.Answers.{resOfFrame, resOfRange, whyFrame, whyRange};
 
 // Offset and length as on the wire, and the last byte.
 pub struct Range {
@@ -34,7 +34,7 @@ pub enum ReadFrame {
 }
 
 pub(crate) fn read_range(s: &[u8], c: Cursor) -> ReadRange
-    ensures { λ r. ⌜ resRange r ≡ rangeAt (now (s .entry)) (c .at) ⌝ }
+    ensures { λ r. ⌜ resOfRange r ≡ rangeAt (now (s .entry)) (c .at) ⌝ }
 {
     let o = xdr::read_u64(s, c);
     let ReadU64::Value(offset, c1) = o else {
@@ -59,7 +59,7 @@ pub(crate) fn read_range(s: &[u8], c: Cursor) -> ReadRange
 }
 
 pub(crate) fn read_frame(s: &[u8], c: Cursor) -> ReadFrame
-    ensures { λ r. ⌜ resFrame r ≡ frameAt (now (s .entry)) (c .at) ⌝ }
+    ensures { λ r. ⌜ resOfFrame r ≡ frameAt (now (s .entry)) (c .at) ⌝ }
 {
     let a = read_range(s, c);
     let ReadRange::Value(range, c1) = a else {

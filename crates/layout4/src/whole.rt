@@ -15,7 +15,7 @@ ghost use lib.Dec.{leb};
 ghost use lib.ListN.{length, replicate};
 ghost use Rattle.xdr.specs.Items.{padding};
 ghost use Rattle.layout4.specs.Layout4s.{layout4};
-ghost use Rattle.layout4.specs.Answers.{layout4Answer, startsIn, whyLayout4};
+ghost use Rattle.layout4.specs.Answers.{answerOfLayout4, startsIn, whyLayout4};
 
 // Offset and length as on the wire, the last byte, and where the body stands.
 pub struct Layout4 {
@@ -59,7 +59,7 @@ fn enough(s: &[u8], at: usize, n: u32) -> bool
 }
 
 pub fn read_layout4(s: &[u8]) -> Layout4Read
-    ensures { λ r. ⌜ (layout4Answer (r .answer) (r .starts) ≡ layout4 (now (s .entry)))
+    ensures { λ r. ⌜ (answerOfLayout4 (r .answer) (r .starts) ≡ layout4 (now (s .entry)))
         × (r .starts ≡ startsIn (layout4 (now (s .entry)))) ⌝ }
 {
     let f = read_frame(s, Cursor { at: 0 });

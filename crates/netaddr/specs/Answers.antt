@@ -7,9 +7,9 @@ use Rattle.netaddr.specs.declared.address.Address.{Address}
 use Rattle.netaddr.specs.declared.address.ReadAddress.{ReadAddress}
 use Rattle.netaddr.specs.declared.address.ReadAddress.the-variants as address
 
-abbrev pub resAddress : ReadAddress → Res Address
-resAddress (address.Value a c) = ok a (c .at)
-resAddress (address.Refused e) = no (numberOf e)
+abbrev pub resOfAddress : ReadAddress → Res Address
+resOfAddress (address.Value a c) = ok a (c .at)
+resOfAddress (address.Refused e) = no (numberOf e)
 
 -- The refusal in an answer; of an answer with a value, the first of the refusals.
 abbrev pub whyAddress : ReadAddress → Refusal

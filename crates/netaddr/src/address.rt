@@ -7,7 +7,7 @@ use xdr::Part;
 use xdr::ReadPart;
 ghost use mathlib.Core.Path.{_≡_};
 ghost use Rattle.netaddr.specs.Addresses.{addressAt};
-ghost use Rattle.netaddr.specs.Answers.{resAddress, whyAddress};
+ghost use Rattle.netaddr.specs.Answers.{resOfAddress, whyAddress};
 
 // The class of the netid, and where the address text stands in the body.
 pub struct Address {
@@ -21,7 +21,7 @@ pub enum ReadAddress {
 }
 
 pub fn read_address(s: &[u8], c: Cursor) -> ReadAddress
-    ensures { λ r. ⌜ resAddress r ≡ addressAt (now (s .entry)) (c .at) ⌝ }
+    ensures { λ r. ⌜ resOfAddress r ≡ addressAt (now (s .entry)) (c .at) ⌝ }
 {
     let first = xdr::read_opaque(s, c, 1, 8);
     let ReadPart::Value(netid, d) = first else {

@@ -7,6 +7,7 @@ use native.Mathlib.Omega.{arith}
 use native.Mathlib.Decide.{decLe}
 use lib.ListN.{replicate, replicate-append-replicate}
 use Rattle.base.specs.Answer.{Answer, accepted, refused, pick}
+use Rattle.base.specs.Lists.{Each}
 use Rattle.base.specs.Ranges.{lastByte}
 use Rattle.segments.specs.declared.Right.{Right}
 use Rattle.segments.specs.declared.Right.the-variants.{None}
@@ -18,7 +19,7 @@ use Rattle.segments.proofs.ScanLaws.{segments-below, segments-past}
 use Rattle.store.specs.Store.{Slot, empty, slotBytes, storeOf}
 use Rattle.reference.specs.Model.{none, Event, Model, Order, act, afterAt, answerTo, answers, ifAccepted, modelAfter, own, run, segmentsIn, start, tableOf, verdict, withSlot}
 use Rattle.reference.specs.Sound.{slotsIn}
-use Rattle.reference.specs.Claim.{Agreed, AllFit, Calls, Confined, Demand3, EachConfined, Fits, Left, Ordered, Showing, acceptedOf, answered, inReach, rightGiven, rightIn, storeLeft, tableLeft, withBody}
+use Rattle.reference.specs.Claim.{Agreed, Calls, Confined, Demand3, EachConfined, Fits, CallResult, Ordered, Showing, acceptedOf, answered, inReach, rightGiven, rightIn, storeLeft, tableLeft, withBody}
 use Rattle.reference.proofs.Laws.{run-right}
 use Rattle.reference.proofs.Bodies.{fewest-showing}
 use Rattle.reference.proofs.Inv.{Inv, after-keeps, no-segments, start-keeps}
@@ -27,7 +28,7 @@ use Rattle.reference.proofs.SoundLaws.{model-canon}
 use Rattle.reference.proofs.OwnLaws.{own-small}
 
 -- the call that follows the model: its answer, and the table and the store of the model after the event
-unfoldable pub leftBy : Event → Model → Left
+unfoldable pub leftBy : Event → Model → CallResult
 leftBy e M = record {
   answer = answerTo lastByte (own e) M;
   table = tableOf lastByte (modelAfter lastByte (own e) M);
@@ -55,8 +56,8 @@ start-store = empty-store 8
 pub event-keeps : (N : ℕ) (e : Event) (M : Model) → Fits e → Inv N M → Inv N (modelAfter N (own e) M)
 event-keeps N e M f v = after-keeps N (own e) M (own-small e f) v
 
-pub run-keeps : (N : ℕ) (es : List Event) (M : Model) → AllFit es → Inv N M → Inv N (run N es M)
-unfolding run AllFit
+pub run-keeps : (N : ℕ) (es : List Event) (M : Model) → Each Fits es → Inv N M → Inv N (run N es M)
+unfolding run
 run-keeps N [] M f v = v
 run-keeps N (e ∷ es) M f v = run-keeps N es (modelAfter N (own e) M) (f .1) (event-keeps N e M (f .0) v)
 
@@ -173,8 +174,8 @@ module _ (call : Calls) (steps : (e : Event) (M : Model) → Fits e → Inv last
       × (storeLeft call es t store ≡ storeOf (run lastByte es M .slots))
       × EachConfined call es t store
 
-  follows : (es : List Event) (M : Model) → AllFit es → Inv lastByte M → Follows es (tableOf lastByte M) (storeOf (M .slots)) M
-  unfolding answered tableLeft storeLeft EachConfined answers run AllFit leftBy
+  follows : (es : List Event) (M : Model) → Each Fits es → Inv lastByte M → Follows es (tableOf lastByte M) (storeOf (M .slots)) M
+  unfolding answered tableLeft storeLeft EachConfined answers run leftBy
   follows [] M f v = (refl, refl, refl, tt)
   follows (e ∷ es) M f v =
       let M' = modelAfter lastByte (own e) M in
@@ -186,7 +187,7 @@ module _ (call : Calls) (steps : (e : Event) (M : Model) → Fits e → Inv last
         (confined-step e M (f .0) v, r .3),
       )
 
-  follows-from : (t : Table) (store : List ℕ) (es : List Event) (M : Model) → t ≡ tableOf lastByte M → store ≡ storeOf (M .slots) → AllFit es → Inv lastByte M
+  follows-from : (t : Table) (store : List ℕ) (es : List Event) (M : Model) → t ≡ tableOf lastByte M → store ≡ storeOf (M .slots) → Each Fits es → Inv lastByte M
       → Follows es t store M
   follows-from t store es M p q f v = rw (p, q) (follows es M f v)
 

@@ -5,17 +5,18 @@ use mathlib.Core.Bool.{Bool, true, false}
 use mathlib.Core.List.{List, [], _∷_}
 use native.Mathlib.Nat.{pow-suc, mul-le-mul-right}
 use native.Mathlib.Omega.{arith}
-use borrow.Author.Tests.{eqb-true, leb-true}
+use borrow.Author.Tests.{leb-true}
 use lib.Dec.{eqb, leb}
 use lib.ListN.{length, drop}
 use Rattle.base.specs.Answer.{Answer, accepted, refused, given, pick}
 use Rattle.base.specs.Iomodes.{iomodeOf}
 use Rattle.base.specs.Ranges.{lastByte, largestSum, rangeLast, requestLast, toTheEnd}
 use Rattle.base.specs.declared.iomode.Iomode.{Iomode}
+use Rattle.base.proofs.AnswerLaws.{gave, never-accepted, same-answer}
 use Rattle.numbers.specs.Numbers.{AllBytes, beBytes, beValue, bytesFrom}
 use Rattle.numbers.proofs.NumberLaws.{be-append, be-round, be-snoc, dropped-bytes, length-bytes, taken-bytes}
-use Rattle.xdr.specs.Res.{Res, ok, no, inside, whole}
-use Rattle.xdr.proofs.Accepted.{bytes-read, count-read, never, number-read, passed, ran, same-place, same-value}
+use Rattle.xdr.specs.Res.{ok}
+use Rattle.xdr.proofs.Accepted.{bytes-read, count-read, item-accepted, number-read, passed, ran, same-value, whole-read}
 use Rattle.layout.specs.Layouts.{layoutBody}
 use Rattle.layout4.specs.Layout4s.{Whole, frameAt, layout4, layout4At, rangeAt}
 use Rattle.layout4.specs.declared.frame.Range.{Range}
@@ -24,39 +25,6 @@ use Rattle.reference.specs.Model.{Deed, returns, recalls, Event, Grant, 
 use Rattle.reference.specs.Sound.{isAccepted}
 use Rattle.reference.specs.Claim.{Fits}
 use Rattle.reference.proofs.Inv.{GoodOrder}
-
--- ---- answers that were accepted
-
-refused-not : {A B : Type 0} (n : ℕ) (a : A) → refused n ≡ accepted a → B
-refused-not n a e = let z : _≡_ {A = ℕ} 0 1 = cc in absurd (omega arith)
-
-same-answer : {A : Type 0} {a b : A} → accepted a ≡ accepted b → a ≡ b
-same-answer e = cc
-
--- the question before an accepted one, and the one behind it
-record Gave {A B : Type 0} (x : Answer A) (f : A → Answer B) (b : B) : Type 0 where
-  item : A
-  first : x ≡ accepted item
-  rest : f item ≡ accepted b
-
-gave : {A B : Type 0} (x : Answer A) (f : A → Answer B) (b : B) → given x f ≡ accepted b → Gave x f b
-unfolding given
-gave (accepted a) f b h = record { item = a; first = refl; rest = h }
-gave (refused n) f b h = refused-not n b h
-
-read-whole : {A : Type 0} (s : List ℕ) (x : Res A) (a : A) → whole s x ≡ accepted a → x ≡ ok a (length s)
-unfolding whole pick
-read-whole s (ok b p) a e = go (eqb p (length s)) refl e
-  where
-    go : (t : Bool) → eqb p (length s) ≡ t → pick t (accepted b) (refused 2) ≡ accepted a → ok b p ≡ ok a (length s)
-    go true h k = let f : b ≡ a = same-answer k in let g : p ≡ length s = eqb-true p (length s) h in rw (f, g)
-    go false h k = refused-not 2 a k
-read-whole s (no n) a e = refused-not n a e
-
-inside-read : {A : Type 0} (x : Answer A) (p : ℕ) (a : A) (q : ℕ) → inside x p ≡ ok a q → (x ≡ accepted a) × (p ≡ q)
-unfolding inside
-inside-read (accepted b) p a q e = (ap accepted (same-value e), same-place e)
-inside-read (refused n) p a q e = never n a q e
 
 -- ---- ranges
 
@@ -73,8 +41,8 @@ range-ends offset len last h e = go (eqb len toTheEnd) (leb 1 len) (leb (offset 
         let a : 1 ≤ len = leb-true 1 len j in
         let b : offset + len ≤ largestSum = leb-true (offset + len) largestSum k in
         omega arith
-    go false true false j k f = refused-not 5 last f
-    go false false w j k f = refused-not 5 last f
+    go false true false j k f = never-accepted 5 last f
+    go false false w j k f = never-accepted 5 last f
 
 -- ---- bytes
 
@@ -110,7 +78,7 @@ range-read s at r p h =
     let n = number-read 8 s at (a .item) (a .next) (a .first) in
     let b = ran _ _ r p (a .rest) in
     let c = ran _ _ r p (b .rest) in
-    let l = inside-read (rangeLast (a .item) (b .item)) (b .next) (c .item) (c .next) (c .first) in
+    let l = item-accepted (rangeLast (a .item) (b .item)) (b .next) (c .item) (c .next) (c .first) in
     let e : record { offset = a .item; length = b .item; last = c .item } ≡ r = same-value (c .rest) in
     let eo : a .item ≡ r .offset = ap (λ (x : Range). x .offset) e in
     let el : b .item ≡ r .length = ap (λ (x : Range). x .length) e in
@@ -144,12 +112,12 @@ frame-read s at f p h =
 pub layout4-read : (s : List ℕ) (w : Whole) → layout4 s ≡ accepted w → Read4 s w
 unfolding layout4 layout4At
 layout4-read s w h =
-    let q = read-whole s (layout4At s) w h in
+    let q = whole-read s (layout4At s) w h in
     let a = ran _ _ w (length s) q in
     let f = frame-read s 0 (a .item) (a .next) (a .first) in
     let t = passed _ _ 1 w (length s) (a .rest) in
     let b = ran _ _ w (length s) (t .chosen) in
-    let l = inside-read (layoutBody (bytesFrom (a .item .size) s (a .next))) (a .next) (b .item) (b .next) (b .first) in
+    let l = item-accepted (layoutBody (bytesFrom (a .item .size) s (a .next))) (a .next) (b .item) (b .next) (b .first) in
     let c = ran _ _ w (length s) (b .rest) in
     let k = bytes-read (a .item .size) s (b .next) (c .item) (c .next) (c .first) in
     let e = same-value (c .rest) in
@@ -202,25 +170,25 @@ unfolding rangeOrder
 range-order d offset len number o h e =
     let a = gave (rangeLast offset len) _ o e in
     let b = gave (iomodeOf number) _ o (a .rest) in
-    let r = range-ends offset len (a .item) h (a .first) in
-    let f : record { deed = d; iomode = b .item; first = offset; last = a .item } ≡ o = same-answer (b .rest) in
+    let r = range-ends offset len (a .value) h (a .first) in
+    let f : record { deed = d; iomode = b .value; first = offset; last = a .value } ≡ o = same-answer (b .rest) in
     let ef : offset ≡ o .first = ap (λ (x : Order). x .first) f in
-    let el : a .item ≡ o .last = ap (λ (x : Order). x .last) f in
+    let el : a .value ≡ o .last = ap (λ (x : Order). x .last) f in
     (omega (arith, r .0), omega (arith, r .1))
 
 pub own-range : (e : Event) (o : Order) → Fits e → own e ≡ accepted o → (o .first ≤ o .last) × (o .last ≤ lastByte)
 unfolding own grantOrder
 own-range (Grant bytes) o h e =
     let a = gave (layout4 bytes) _ o e in
-    let r = layout4-read bytes (a .item) (a .first) in
+    let r = layout4-read bytes (a .value) (a .first) in
     let n : length (bytesFrom 8 bytes 0) ≡ 8 = length-bytes 8 bytes 0 (r .eight) in
     let s : beValue (bytesFrom 8 bytes 0) < 256 ^ length (bytesFrom 8 bytes 0) = be-small (bytesFrom 8 bytes 0) (taken-bytes 8 bytes h) in
     let s8 : beValue (bytesFrom 8 bytes 0) < 256 ^ 8 = rw n at s in
-    let k : a .item .frame .offset < 2 ^ 64 = omega (arith, r .offset) in
-    let q = range-ends (a .item .frame .offset) (a .item .frame .length) (a .item .frame .last) k (r .range) in
-    let f : grantOrder bytes (a .item) ≡ o = same-answer (a .rest) in
-    let ef : a .item .frame .offset ≡ o .first = ap (λ (x : Order). x .first) f in
-    let el : a .item .frame .last ≡ o .last = ap (λ (x : Order). x .last) f in
+    let k : a .value .frame .offset < 2 ^ 64 = omega (arith, r .offset) in
+    let q = range-ends (a .value .frame .offset) (a .value .frame .length) (a .value .frame .last) k (r .range) in
+    let f : grantOrder bytes (a .value) ≡ o = same-answer (a .rest) in
+    let ef : a .value .frame .offset ≡ o .first = ap (λ (x : Order). x .first) f in
+    let el : a .value .frame .last ≡ o .last = ap (λ (x : Order). x .last) f in
     (omega (arith, q .0), omega (arith, q .1))
 own-range (Return offset len number) o h e = range-order returns offset len number o h e
 own-range (Recall offset len number) o h e = range-order recalls offset len number o h e

@@ -8,9 +8,9 @@ use native.Mathlib.Omega.{arith}
 use borrow.Author.Tests.{not-true}
 use lib.ListN.{length, getD}
 use Rattle.base.specs.Answer.{pick}
+use Rattle.base.proofs.AnswerLaws.{both}
 use Rattle.numbers.specs.Numbers.{sameBytes}
 use Rattle.numbers.proofs.SameLaws.{same-not, same-other, same-refl, same-true}
-use Rattle.xdr.proofs.Accepted.{both}
 use Rattle.segments.specs.Segments.{Mode}
 use Rattle.store.specs.Store.{Body, Slot, empty, holds}
 use Rattle.reference.specs.Model.{ByteRight, Deed, grants, returns, recalls, revokes, anyByte, ifNamed, inLowest, inSlots, isUnder, noneEmpty, placed, slotOf, stops24}

@@ -9,10 +9,11 @@ use lib.Dec.{ltb}
 use lib.ListN.{getD, replicate}
 use Rattle.base.specs.Answer.{accepted, given, pick}
 use Rattle.base.specs.Iomodes.{grantIomodeOf}
+use Rattle.base.specs.Lists.{Each}
 use Rattle.base.specs.Ranges.{lastByte, rangeLast, requestLast, toTheEnd}
 use Rattle.base.specs.declared.iomode.Iomode.the-variants.{Any, ReadWrite}
 use Rattle.numbers.specs.Numbers.{AllBytes, beBytes, beFrom, beValue}
-use Rattle.xdr.specs.Res.{inside, manyAt, then, whole}
+use Rattle.xdr.specs.Res.{asItem, manyAt, then, whole}
 use Rattle.xdr.specs.Items.{allZero, bytesAt, countAt, numAt, opaqueAt}
 use Rattle.server.specs.Servers.{handlesAt, headAt, serverAt}
 use Rattle.layout.specs.Layouts.{frontAt, layoutAt, layoutBody, mirrorsAt, tailAt, unitFits}
@@ -24,7 +25,7 @@ use Rattle.segments.proofs.Fewest.{scan-only}
 use Rattle.segments.proofs.ScanLaws.{any-none}
 use Rattle.store.specs.Store.{Body, Slot}
 use Rattle.reference.specs.Model.{ByteRight, none, granted, Model, Event, Revoke, Order, act, afterAt, answerTo, answers, anyByte, covers, grantOrder, grants, inSlots, meets, modelAfter, noneEmpty, own, revokes, segmentsIn, slotOf, start, stops21, stops22, tooMany, verdict, withSlot}
-use Rattle.reference.specs.Claim.{AllFit, Calls, Demand3, Left, acceptedOf, answered, orderOf, rightGiven, rightIn, storeLeft, tableLeft}
+use Rattle.reference.specs.Claim.{Calls, Demand3, CallResult, Fits, acceptedOf, answered, orderOf, rightGiven, rightIn, storeLeft, tableLeft}
 use Rattle.reference.specs.Cases.{bodyOf, grantBytes, grantOf, grantedIn, servers}
 use Rattle.reference.specs.StandIns.{changesNothing, firstOnly, refusesAll}
 use Rattle.reference.proofs.Inv.{no-segments}
@@ -99,7 +100,7 @@ unfoldable wholeFile : Event
 wholeFile = grantOf 0 toTheEnd 2 0
 
 whole-file-read : own wholeFile ≡ accepted (record { deed = grants (bodyOf 0 1 0); iomode = ReadWrite; first = 0; last = lastByte })
-unfolding wholeFile own grantOrder given pick bodyOf servers grantBytes beBytes beFrom beValue layout4 layout4At frameAt rangeAt rangeLast requestLast grantIomodeOf then inside whole manyAt allZero bytesAt countAt numAt opaqueAt headAt handlesAt serverAt frontAt layoutAt layoutBody mirrorsAt tailAt unitFits
+unfolding wholeFile own grantOrder given pick bodyOf servers grantBytes beBytes beFrom beValue layout4 layout4At frameAt rangeAt rangeLast requestLast grantIomodeOf then asItem whole manyAt allZero bytesAt countAt numAt opaqueAt headAt handlesAt serverAt frontAt layoutAt layoutBody mirrorsAt tailAt unitFits
 whole-file-read = refl
 
 whole-file-granted : answerTo lastByte (own wholeFile) start ≡ 0
@@ -129,12 +130,11 @@ tested-bytes (b ∷ bs) e i = go (ltb b 256) refl e i (λ k j. tested-bytes bs k
     go true h k (suc i) rest = rest k i
     go false h k i rest = absurd (false≢true k)
 
-whole-file-fits : AllFit (wholeFile ∷ [])
-unfolding AllFit wholeFile grantBytes bodyOf servers beBytes areBytes
+whole-file-fits : Each Fits (wholeFile ∷ [])
+unfolding wholeFile grantBytes bodyOf servers beBytes areBytes
 whole-file-fits = (tested-bytes (grantBytes 0 toTheEnd 2 0) refl, tt)
 
-whole-file-revoke-fits : AllFit (wholeFile ∷ Revoke ∷ [])
-unfolding AllFit
+whole-file-revoke-fits : Each Fits (wholeFile ∷ Revoke ∷ [])
 whole-file-revoke-fits = (whole-file-fits .0, (tt, tt))
 
 -- ---- rights that the events give, and that a table shows
@@ -177,7 +177,7 @@ changes-nothing-falls call d =
 
 module _ (call later : Calls) (d : Demand3 (firstOnly call later)) where
   -- what the grant leaves
-  abbrev first : Left
+  abbrev first : CallResult
   first = firstOnly call later wholeFile emptyTable (replicate 32768 0)
 
   first-shows : rightIn (first .table) (first .store) RW 0 ≡ granted (bodyOf 0 1 0)
@@ -193,7 +193,7 @@ module _ (call later : Calls) (d : Demand3 (firstOnly call later)) where
 
   still-shows : rightIn (tableLeft (firstOnly call later) (wholeFile ∷ Revoke ∷ []) emptyTable (replicate 32768 0)) (storeLeft (firstOnly call later) (wholeFile ∷ Revoke ∷ []) emptyTable (replicate 32768 0)) RW 0 ≡ granted (bodyOf 0 1 0)
   unfolding tableLeft storeLeft
-  still-shows = ap (λ (l : Left). rightIn (l .table) (l .store) RW 0) second-ignored ∙ first-shows
+  still-shows = ap (λ (l : CallResult). rightIn (l .table) (l .store) RW 0) second-ignored ∙ first-shows
 
 pub first-only-falls : (call later : Calls) → Demand3 (firstOnly call later) → ⊥
 first-only-falls call later d =

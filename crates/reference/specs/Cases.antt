@@ -51,10 +51,6 @@ Holds c =
     × (segmentsIn (c .last) (run (c .last) (c .events) start) READ ≡ c .read)
     × (segmentsIn (c .last) (run (c .last) (c .events) start) RW ≡ c .rw)
 
-abbrev pub AllHold : List Case → Type 0
-AllHold [] = Unit {0}
-AllHold (c ∷ cs) = Holds c × AllHold cs
-
 -- returns in RW of n single bytes, every other byte from x on
 abbrev pub returnsFrom : ℕ → ℕ → List Event
 returnsFrom zero x = []

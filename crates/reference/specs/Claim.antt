@@ -5,6 +5,7 @@ use mathlib.Core.Bool.{Bool, false}
 use mathlib.Core.List.{List, [], _∷_, _++_}
 use lib.ListN.{length, replicate, getD}
 use Rattle.base.specs.Answer.{Answer, accepted, refused}
+use Rattle.base.specs.Lists.{Each}
 use Rattle.base.specs.Ranges.{lastByte}
 use Rattle.numbers.specs.Numbers.{AllBytes}
 use Rattle.segments.specs.declared.Right.{Right}
@@ -16,15 +17,15 @@ use Rattle.store.specs.Store.{Slot, empty, holds, storeOf, Body}
 use Rattle.reference.specs.Model.{ByteRight, none, granted, recalled, Model, start, Event, Grant, Return, Recall, Revoke, Order, own, covers, afterAt, ifAccepted, answers, run, tableOf}
 use Rattle.reference.specs.Sound.{slotsIn}
 
--- what a call leaves behind: its answer (0 for accepted), the table and the store; no contrary of a right
-pub record Left : Type 0 where
+-- what a call gives: its answer (0 for accepted), the table and the store
+pub record CallResult : Type 0 where
   pub answer : ℕ
   pub table : Table
   pub store : List ℕ
 
 -- a call for each event, on a table and a store
 abbrev pub Calls : Type 0
-Calls = Event → Table → List ℕ → Left
+Calls = Event → Table → List ℕ → CallResult
 
 -- ---- events as the calls' types have them: a grant's bytes are bytes, an offset is below 2^64 (any length and iomode number will do)
 
@@ -33,10 +34,6 @@ Fits (Grant bytes) = AllBytes bytes
 Fits (Return offset len number) = offset < 2 ^ 64
 Fits (Recall offset len number) = offset < 2 ^ 64
 Fits Revoke = Unit {0}
-
-unfoldable pub AllFit : List Event → Type 0
-AllFit [] = Unit {0}
-AllFit (e ∷ es) = Fits e × AllFit es
 
 -- ---- the rights, as table and store show them
 
@@ -111,7 +108,7 @@ inReach (accepted o) m x = covers o m x
 inReach (refused n) m x = false
 
 -- "An accepted event changes no right outside its range and iomode; a refused one changes nothing."
-pub record Confined (e : Event) (t : Table) (store : List ℕ) (l : Left) : Type 0 where
+pub record Confined (e : Event) (t : Table) (store : List ℕ) (l : CallResult) : Type 0 where
   pub elsewhere : l .answer ≡ 0 → (m : Mode) (x : ℕ) → x ≤ lastByte → inReach (own e) m x ≡ false
       → rightIn (l .table) (l .store) m x ≡ rightIn t store m x
   pub unchanged : (l .answer ≡ 0 → ⊥) → (l .table ≡ t) × (l .store ≡ store)
@@ -147,7 +144,7 @@ pub record Agreed (call : Calls) (es : List Event) (got : List ℕ) (t : Table) 
 -- "Start from an empty table and a zeroed shelf .. For every list of grants, returns, recalls and revokes, refused ones among them, .. this
 -- holds."
 abbrev pub Demand3 : Calls → Type 0
-Demand3 call = (es : List Event) → AllFit es
+Demand3 call = (es : List Event) → Each Fits es
     → Agreed call es
     (answered call es emptyTable (replicate 32768 0))
     (tableLeft call es emptyTable (replicate 32768 0))

@@ -11,12 +11,13 @@ use Rattle.numbers.specs.Numbers.{bytesFrom}
 use Rattle.numbers.proofs.NumberLaws.{length-bytes}
 use Rattle.xdr.specs.Res.{Res, ok, no, then, whole, manyAt}
 use Rattle.xdr.specs.Items.{countAt}
-use Rattle.xdr.proofs.Accepted.{ran, same-value, same-place}
+use Rattle.xdr.specs.declared.Part.{Part}
+use Rattle.xdr.proofs.Accepted.{bytes-read, ran, same-value, same-place}
 use Rattle.report.specs.Reports.{headAt, Report, reportAt, reportBody}
 use Rattle.report.specs.Answers.{arraysFrom, blankHead, countOf, headFrom, headsOf, placesOf, reportsIn}
 use Rattle.report.specs.declared.ReportHead.{ReportHead}
 use Rattle.report.specs.declared.head.HeadItem.{HeadItem}
-use Rattle.report.proofs.Runs.{bytes-inside, many-none, many-then, padded-next}
+use Rattle.report.proofs.Runs.{many-none, many-then, padded-next}
 
 -- ---- the arrays
 
@@ -107,9 +108,9 @@ head-stateid s at h p e =
     let d = ran _ _ _ _ (c .rest) in
     let f = ran _ _ _ _ (d .rest) in
     let k : h .stateid ≡ bytesFrom 16 s (d .item .start) = ap (λ (x : ReportHead). x .stateid) (sym (same-value (f .rest))) in
-    k-length (d .item .start) k (bytes-inside 16 s _ _ _ (d .first)) where
-      k-length : (start : ℕ) → h .stateid ≡ bytesFrom 16 s start → start + 16 ≤ length s → length (h .stateid) ≡ 16
-      k-length start k n = ap length k ∙ length-bytes 16 s start n
+    let w = bytes-read 16 s _ _ _ (d .first) in
+    let i = ap (λ (x : Part). x .start) (w .value) in
+    ap length k ∙ length-bytes 16 s (d .item .start) (omega (arith, w .end, w .within, i))
 
 pub report-stateid : (s : List ℕ) (at : ℕ) (r : Report) (p : ℕ) → reportAt s at ≡ ok r p → length (r .head .stateid) ≡ 16
 unfolding reportAt

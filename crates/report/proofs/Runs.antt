@@ -1,22 +1,16 @@
 -- Laws of items read one after the other: a run's steps, what an accepted run went through, and how many items it has.
-use Prim.Native.Nat.{ℕ, zero, suc, _+_, _-_, _≤_, _<_}
-use mathlib.Core.Path.{_≡_, refl, sym, _∙_}
-use mathlib.Core.Bool.{Bool, true, false, _&&_}
+use Prim.Native.Nat.{ℕ, zero, suc, _+_, _-_, _<_}
+use mathlib.Core.Path.{_≡_, refl, sym}
 use mathlib.Core.List.{List, [], _∷_, _++_, append-nil}
 use native.Mathlib.Omega.{arith}
 use native.Mathlib.Numerals.{add-one}
-use borrow.Author.Tests.{leb-true}
-use lib.Dec.{leb}
 use lib.ListN.{length, drop, getD, replicate, set, length-append, length-drop}
 use lib.Seq.{append-snoc, set-at, take-suc, getD-drop}
-use Rattle.base.specs.Answer.{pick}
 use Rattle.base.specs.Lists.{padded}
-use Rattle.numbers.specs.Numbers.{beValue, bytesFrom}
-use Rattle.xdr.specs.Res.{Res, ok, no, then, manyAt}
-use Rattle.xdr.specs.Items.{allZero, bytesAt, countAt, numAt, padding}
-use Rattle.xdr.specs.declared.Part.{Part}
-use Rattle.xdr.proofs.Accepted.{Ran, both, ran, same-value}
-use Rattle.report.specs.Reports.{errorAt, errorsEnd, headAt, Report, reportAt}
+use Rattle.numbers.specs.Numbers.{bytesFrom}
+use Rattle.xdr.specs.Res.{Res, ok, no, then, manyAt, endOf}
+use Rattle.xdr.proofs.EndLaws.{end-goes-on}
+use Rattle.report.specs.Reports.{errorAt, headAt, Report, reportAt}
 use Rattle.report.specs.declared.ReportHead.{ReportHead}
 
 pub many-none : {A : Type 0} (item : List ℕ → ℕ → Res A) (n : ℕ) (s : List ℕ) (at : ℕ) → n ≡ 0 → manyAt item n s at ≡ ok [] at
@@ -50,70 +44,19 @@ many-then {A} {C} item n s at f h = rw (many-next item n s at h) (go (item s at)
 
 -- ---- where a run of errors ends
 
-pub errors-none : (n : ℕ) (s : List ℕ) (at : ℕ) → n ≡ 0 → errorsEnd n s at ≡ ok tt at
-unfolding errorsEnd then
-errors-none n s at h = rw (many-none errorAt n s at h)
-
-pub errors-next : (n : ℕ) (s : List ℕ) (at : ℕ) → 0 < n → errorsEnd n s at ≡ then (errorAt s at) (λ e p. errorsEnd (n - 1) s p)
-unfolding errorsEnd
-errors-next n s at h = many-then errorAt n s at (λ es p. ok tt p) h
-
-abbrev ended : ℕ → Res (Unit {0})
-ended q = ok tt q
-
 abbrev reported : ReportHead → ℕ → ℕ → Res Report
 reported h p q = ok (record { head = h; errors-at = p }) q
 
 -- a report by the place where its errors end
 pub report-ends : (s : List ℕ) (at : ℕ)
-    → reportAt s at ≡ then (headAt s at) (λ h p. then (errorsEnd (h .errors) s p) λ u q. reported h p q)
-unfolding reportAt errorsEnd then
+    → reportAt s at ≡ then (headAt s at) (λ h p. then (endOf (manyAt errorAt (h .errors) s p)) λ u q. reported h p q)
+unfolding reportAt then
 report-ends s at = go (headAt s at) where
   go : (x : Res ReportHead)
       → then x (λ h p. then (manyAt errorAt (h .errors) s p) λ es q. reported h p q)
-      ≡ then x (λ h p. then (then (manyAt errorAt (h .errors) s p) λ es q. ended q) λ u q. reported h p q)
-  go (ok h p) = sym (then-then (manyAt errorAt (h .errors) s p) (λ es q. ended q) (λ u q. reported h p q))
+      ≡ then x (λ h p. then (endOf (manyAt errorAt (h .errors) s p)) λ u q. reported h p q)
+  go (ok h p) = sym (end-goes-on (manyAt errorAt (h .errors) s p) (λ q. reported h p q))
   go (no n) = refl
-
--- ---- an accepted number, an accepted run of bytes
-
-pub pick-ok : {A : Type 0} (t : Bool) (x : Res A) (n : ℕ) (a : A) (p : ℕ) → pick t x (no n) ≡ ok a p → (t ≡ true) × (x ≡ ok a p)
-unfolding pick
-pick-ok true x n a p h = (refl, h)
-pick-ok false x n a p h = let z : _≡_ {A = ℕ} 0 1 = cc in absurd (omega arith)
-
-pub num-ran : (k : ℕ) (s : List ℕ) (at v p : ℕ) → numAt k s at ≡ ok v p
-    → (at + k ≤ length s) × (v ≡ beValue (bytesFrom k s at)) × (p ≡ at + k)
-unfolding numAt
-num-ran k s at v p h =
-    let g = pick-ok (leb (at + k) (length s)) (ok (beValue (bytesFrom k s at)) (at + k)) 1 v p h in
-    let e = g .1 in
-    (leb-true (at + k) (length s) (g .0), cc e, cc e)
-
-pub bytes-ran : (n : ℕ) (s : List ℕ) (at : ℕ) (x : Part) (p : ℕ) → bytesAt n s at ≡ ok x p
-    → (at + n + padding n ≤ length s) × (x ≡ record { start = at; len = n }) × (p ≡ at + n + padding n)
-unfolding bytesAt
-bytes-ran n s at x p h =
-    let y : Res Part = ok (record { start = at; len = n }) (at + n + padding n) in
-    let z = allZero (bytesFrom (padding n) s (at + n)) in
-    let g = pick-ok (leb (at + n + padding n) (length s)) (pick z y (no 6)) 1 x p h in
-    let e = pick-ok z y 6 x p (g .1) .1 in
-    (leb-true (at + n + padding n) (length s) (g .0), cc e, cc e)
-
-pub bytes-inside : (n : ℕ) (s : List ℕ) (at : ℕ) (x : Part) (p : ℕ) → bytesAt n s at ≡ ok x p → x .start + n ≤ length s
-bytes-inside n s at x p h = let g = bytes-ran n s at x p h in rw (g .1) (omega (arith, g .0))
-
-pub count-ran : (lo hi : ℕ) (s : List ℕ) (at n p : ℕ) → countAt lo hi s at ≡ ok n p → (numAt 4 s at ≡ ok n p) × (lo ≤ n) × (n ≤ hi)
-unfolding countAt
-count-ran lo hi s at n p h = go (ran _ _ _ _ h) where
-  go : Ran (numAt 4 s at) (λ m q. pick (leb lo m && leb m hi) (ok m q) (no 8)) n p → (numAt 4 s at ≡ ok n p) × (lo ≤ n) × (n ≤ hi)
-  go r =
-      let g = pick-ok (leb lo (r .item) && leb (r .item) hi) (ok (r .item) (r .next)) 8 n p (r .rest) in
-      let b = both (leb lo (r .item)) (leb (r .item) hi) (g .0) in
-      let e : r .item ≡ n = same-value (g .1) in
-      let m : lo ≤ r .item = leb-true lo (r .item) (b .0) in
-      let k : r .item ≤ hi = leb-true (r .item) hi (b .1) in
-      (r .first ∙ g .1, omega arith, omega arith)
 
 -- ---- arrays that are filled from the front
 

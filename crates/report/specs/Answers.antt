@@ -24,25 +24,25 @@ use Rattle.report.specs.declared.head.ReadHead.the-variants as head
 use Rattle.report.specs.declared.head.ReadReport.{ReadReport}
 use Rattle.report.specs.declared.head.ReadReport.the-variants as report
 
-abbrev pub resError : ReadError → Res ErrorItem
-resError (error.Value e c) = ok e (c .at)
-resError (error.Refused e) = no (numberOf e)
+abbrev pub resOfError : ReadError → Res ErrorItem
+resOfError (error.Value e c) = ok e (c .at)
+resOfError (error.Refused e) = no (numberOf e)
 
-abbrev pub resEnd : ReadEnd → Res (Unit {0})
-resEnd (end.Value c) = ok tt (c .at)
-resEnd (end.Refused e) = no (numberOf e)
+abbrev pub resOfEnd : ReadEnd → Res (Unit {0})
+resOfEnd (end.Value c) = ok tt (c .at)
+resOfEnd (end.Refused e) = no (numberOf e)
 
 -- a head whose stateid stands in the bytes s
 abbrev pub headFrom : List ℕ → HeadItem → ReportHead
 headFrom s h = record { offset = h .offset; length = h .length; stateid = bytesFrom 16 s (h .stateid); errors = h .errors }
 
-abbrev pub resHead : List ℕ → ReadHead → Res ReportHead
-resHead s (head.Value h c) = ok (headFrom s h) (c .at)
-resHead s (head.Refused e) = no (numberOf e)
+abbrev pub resOfHead : List ℕ → ReadHead → Res ReportHead
+resOfHead s (head.Value h c) = ok (headFrom s h) (c .at)
+resOfHead s (head.Refused e) = no (numberOf e)
 
-abbrev pub resReport : List ℕ → ReadReport → Res Report
-resReport s (report.Value h first c) = ok (record { head = headFrom s h; errors-at = first }) (c .at)
-resReport s (report.Refused e) = no (numberOf e)
+abbrev pub resOfReport : List ℕ → ReadReport → Res Report
+resOfReport s (report.Value h first c) = ok (record { head = headFrom s h; errors-at = first }) (c .at)
+resOfReport s (report.Refused e) = no (numberOf e)
 
 -- ---- the arrays of 8 places
 
@@ -65,17 +65,17 @@ reportsIn (refused n) = []
 unfoldable pub countOf : Answer (List Report) → Answer ℕ
 countOf a = given a λ rs. accepted (length rs)
 
-abbrev pub answerCount : ReportAnswer → Answer ℕ
-answerCount (answer.Count n) = accepted n
-answerCount (answer.Refused e) = refused (numberOf e)
+abbrev pub answerOfCount : ReportAnswer → Answer ℕ
+answerOfCount (answer.Count n) = accepted n
+answerOfCount (answer.Refused e) = refused (numberOf e)
 
 -- both arrays, where the reports behind the ones already read were read
 unfoldable pub arraysFrom : List Report → Res (List Report) → Res (List ReportHead × List ℕ)
 arraysFrom done x = then x λ rs p. ok (headsOf (done ++ rs), placesOf (done ++ rs)) p
 
-abbrev pub resArrays : ReadEnd → List ReportHead → List ℕ → Res (List ReportHead × List ℕ)
-resArrays (end.Value c) heads places = ok (heads, places) (c .at)
-resArrays (end.Refused e) heads places = no (numberOf e)
+abbrev pub resOfArrays : ReadEnd → List ReportHead → List ℕ → Res (List ReportHead × List ℕ)
+resOfArrays (end.Value c) heads places = ok (heads, places) (c .at)
+resOfArrays (end.Refused e) heads places = no (numberOf e)
 
 -- ---- the refusal in an answer; of an answer with a value, the first of the refusals
 

@@ -8,7 +8,7 @@ use lib.Dec.{eqb}
 use Rattle.base.specs.Answer.{Answer, pick}
 use Rattle.base.specs.Ranges.{rangeLast}
 use Rattle.numbers.specs.Numbers.{bytesFrom}
-use Rattle.xdr.specs.Res.{Res, ok, no, then, manyAt, whole, inside}
+use Rattle.xdr.specs.Res.{Res, ok, no, then, manyAt, whole, asItem}
 use Rattle.xdr.specs.Items.{numAt, countAt, bytesAt}
 use Rattle.report.specs.declared.ErrorItem.{ErrorItem}
 use Rattle.report.specs.declared.ReportHead.{ReportHead}
@@ -27,16 +27,12 @@ errorAt s at =
     (ok (record { device = device .start; status = status; operation = operation }) p3)
     (no 27)
 
--- where a run of errors ends
-unfoldable pub errorsEnd : ℕ → List ℕ → ℕ → Res (Unit {0})
-errorsEnd n s at = then (manyAt errorAt n s at) λ es p. ok tt p
-
 -- "offset, length (the pair obeys the range rule, judged here), stateid, error count (1 to 16)"
 unfoldable pub headAt : List ℕ → ℕ → Res ReportHead
 headAt s at =
     then (numAt 8 s at) λ offset p1.
     then (numAt 8 s p1) λ len p2.
-    then (inside (rangeLast offset len) p2) λ last p.
+    then (asItem (rangeLast offset len) p2) λ last p.
     then (bytesAt 16 s p) λ stateid p3.
     then (countAt 1 16 s p3) λ n p4.
     ok (record { offset = offset; length = len; stateid = bytesFrom 16 s (stateid .start); errors = n }) p4

@@ -16,7 +16,7 @@ ghost use Rattle.base.specs.Answer.{refused as refusedBy};
 ghost use Rattle.base.specs.Refusals.{numberOf};
 ghost use Rattle.xdr.specs.Res.{manyAt};
 ghost use Rattle.report.specs.Reports.{reportAt, reportBody};
-ghost use Rattle.report.specs.Answers.{answerCount, blankHead, countOf, headsOf, placesOf, reportsIn, resArrays, arraysFrom};
+ghost use Rattle.report.specs.Answers.{answerOfCount, blankHead, countOf, headsOf, placesOf, reportsIn, resOfArrays, arraysFrom};
 
 pub enum ReportAnswer {
     Count(u32),
@@ -51,7 +51,7 @@ fn blank_head() -> ReportHead
 
 fn read_arrays(s: &[u8], c: Cursor, n: u32) -> Arrays
     requires { ⌜ n ≤ 8 ⌝ }
-    ensures { λ r. ⌜ resArrays (r .end) (r .heads) (r .«errors_at») ≡ arraysFrom [] (manyAt reportAt n (now (s .entry)) (c .at)) ⌝ }
+    ensures { λ r. ⌜ resOfArrays (r .end) (r .heads) (r .«errors_at») ≡ arraysFrom [] (manyAt reportAt n (now (s .entry)) (c .at)) ⌝ }
 {
     let blank = blank_head();
     let mut heads = [blank; 8];
@@ -85,7 +85,7 @@ fn read_arrays(s: &[u8], c: Cursor, n: u32) -> Arrays
 }
 
 fn refused(e: Refusal) -> ReportsRead
-    ensures { λ r. ⌜ (answerCount (r .answer) ≡ refusedBy (numberOf e)) × (r .heads ≡ headsOf []) × (r .«errors_at» ≡ placesOf []) ⌝ }
+    ensures { λ r. ⌜ (answerOfCount (r .answer) ≡ refusedBy (numberOf e)) × (r .heads ≡ headsOf []) × (r .«errors_at» ≡ placesOf []) ⌝ }
 {
     let blank = blank_head();
     let heads = [blank; 8];
@@ -100,7 +100,7 @@ fn refused(e: Refusal) -> ReportsRead
 
 // The `ff_layoutreturn4` body.
 pub fn read_reports(s: &[u8]) -> ReportsRead
-    ensures { λ r. ⌜ (answerCount (r .answer) ≡ countOf (reportBody (now (s .entry))))
+    ensures { λ r. ⌜ (answerOfCount (r .answer) ≡ countOf (reportBody (now (s .entry))))
         × (r .heads ≡ headsOf (reportsIn (reportBody (now (s .entry)))))
         × (r .«errors_at» ≡ placesOf (reportsIn (reportBody (now (s .entry))))) ⌝ }
 {

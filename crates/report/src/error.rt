@@ -5,8 +5,9 @@ use xdr::Cursor;
 use xdr::ReadPart;
 use xdr::ReadU32;
 ghost use mathlib.Core.Path.{_≡_};
-ghost use Rattle.report.specs.Reports.{errorFits, errorAt, errorsEnd};
-ghost use Rattle.report.specs.Answers.{resError, resEnd, whyEnd, whyError};
+ghost use Rattle.xdr.specs.Res.{endOf, manyAt};
+ghost use Rattle.report.specs.Reports.{errorFits, errorAt};
+ghost use Rattle.report.specs.Answers.{resOfError, resOfEnd, whyEnd, whyError};
 
 pub enum ReadError {
     Value(ErrorItem, Cursor),
@@ -34,7 +35,7 @@ pub fn error_fits(status: u32, operation: u32) -> bool
 }
 
 pub fn read_error(s: &[u8], c: Cursor) -> ReadError
-    ensures { λ r. ⌜ resError r ≡ errorAt (now (s .entry)) (c .at) ⌝ }
+    ensures { λ r. ⌜ resOfError r ≡ errorAt (now (s .entry)) (c .at) ⌝ }
 {
     let rd = xdr::read_bytes(s, c, 16);
     let ReadPart::Value(device, c1) = rd else {
@@ -71,7 +72,7 @@ pub(crate) fn why_error(r: ReadError) -> Refusal
 
 // n errors, one after the other: where they end.
 pub(crate) fn read_errors(s: &[u8], c: Cursor, n: u32) -> ReadEnd
-    ensures { λ r. ⌜ resEnd r ≡ errorsEnd n (now (s .entry)) (c .at) ⌝ }
+    ensures { λ r. ⌜ resOfEnd r ≡ endOf (manyAt errorAt n (now (s .entry)) (c .at)) ⌝ }
 {
     let mut d = c;
     let mut left = n;

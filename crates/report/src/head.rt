@@ -15,7 +15,7 @@ ghost use lib.ListN.{length};
 ghost use Rattle.base.specs.Ranges.{answerOfLast, rangeLast};
 ghost use Rattle.numbers.specs.Numbers.{bytesFrom};
 ghost use Rattle.report.specs.Reports.{headAt, reportAt};
-ghost use Rattle.report.specs.Answers.{headFrom, resHead, resReport, whyHead, whyReport};
+ghost use Rattle.report.specs.Answers.{headFrom, resOfHead, resOfReport, whyHead, whyReport};
 
 // A `ReportHead` whose stateid is still in the bytes: `stateid` is its place.
 pub struct HeadItem {
@@ -71,7 +71,7 @@ fn pair_last(offset: u64, len: u64) -> Last
 }
 
 pub(crate) fn read_head(s: &[u8], c: Cursor) -> ReadHead
-    ensures { λ r. ⌜ resHead (now (s .entry)) r ≡ headAt (now (s .entry)) (c .at) ⌝ }
+    ensures { λ r. ⌜ resOfHead (now (s .entry)) r ≡ headAt (now (s .entry)) (c .at) ⌝ }
 {
     let ro = xdr::read_u64(s, c);
     let ReadU64::Value(offset, c1) = ro else {
@@ -104,7 +104,7 @@ pub(crate) fn read_head(s: &[u8], c: Cursor) -> ReadHead
 }
 
 pub(crate) fn read_report(s: &[u8], c: Cursor) -> ReadReport
-    ensures { λ r. ⌜ resReport (now (s .entry)) r ≡ reportAt (now (s .entry)) (c .at) ⌝ }
+    ensures { λ r. ⌜ resOfReport (now (s .entry)) r ≡ reportAt (now (s .entry)) (c .at) ⌝ }
 {
     let rh = read_head(s, c);
     let ReadHead::Value(item, d) = rh else {

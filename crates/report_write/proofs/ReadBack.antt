@@ -7,19 +7,19 @@ use native.Mathlib.Omega.{arith}
 use borrow.Author.Tests.{le-leb}
 use lib.ListN.{length, take, drop, length-append}
 use lib.Seq.{drop-at, take-at}
-use Rattle.base.specs.Answer.{Answer, accepted, refused, given, pick}
+use Rattle.base.specs.Answer.{accepted, given, pick}
 use Rattle.base.specs.Ranges.{rangeLast}
 use Rattle.numbers.specs.Numbers.{AllBytes, beAt, beBytes, bytesFrom}
 use Rattle.numbers.proofs.NumberLaws.{length-be, length-bytes}
 use Rattle.xdr.specs.Items.{bytesAt, countAt, numAt}
-use Rattle.xdr.specs.Res.{ok, inside, manyAt}
+use Rattle.xdr.specs.Res.{ok, asItem, manyAt}
 use Rattle.xdr.specs.declared.Part.{Part}
 use Rattle.xdr.proofs.ItemLaws.{num-there}
-use Rattle.xdr.proofs.Accepted.{ran, same-value, same-place}
+use Rattle.xdr.proofs.Accepted.{bytes-read, count-read, item-accepted, number-read, passed, ran, same-value, same-place}
 use Rattle.report.specs.Reports.{errorAt, errorFits, headAt, Report, reportAt}
 use Rattle.report.specs.declared.ErrorItem.{ErrorItem}
 use Rattle.report.specs.declared.ReportHead.{ReportHead}
-use Rattle.report.proofs.Runs.{bytes-ran, count-ran, many-none, num-ran, pick-ok}
+use Rattle.report.proofs.Runs.{many-none}
 use Rattle.report_write.specs.Places.{recordsAt, recordsIn}
 use Rattle.report_write.specs.Writing.{allFit, counts, ErrorRecord, errorBytes, errorsBytes, headBytes, judged, judgedOne, recordHere, reportsBytes}
 use Rattle.report_write.proofs.Standing.{be-at-stands, be-stands, bytes-are, Stands, stands-join}
@@ -45,19 +45,19 @@ record-back s at b r =
     (stands-join st op s (at + 16) (at + 20) (omega (arith, st4)) (be-at-stands 4 s (at + 16) b (omega (arith, r))) (be-at-stands 4 s (at + 20) b (omega (arith, r))))
 
 num-at : (k : ℕ) (s : List ℕ) (at v p : ℕ) → numAt k s at ≡ ok v p → v ≡ beAt k s at
-num-at k s at v p h = let g = num-ran k s at v p h in same-value (sym h ∙ num-there k s at (g .0))
+num-at k s at v p h = let g = number-read k s at v p h in same-value (sym h ∙ num-there k s at (omega (arith, g .end, g .within)))
 
 error-parts : (s : List ℕ) (at : ℕ) (d : Part) (p1 st p2 op p3 : ℕ) → AllBytes s → bytesAt 16 s at ≡ ok d p1 → numAt 4 s p1 ≡ ok st p2
     → numAt 4 s p2 ≡ ok op p3 → errorFits st op ≡ true → ErrorBack s at p3
 unfolding recordHere
 error-parts s at d p1 st p2 op p3 b x y z f =
-    let i = bytes-ran 16 s at d p1 x in
-    let j = num-ran 4 s p1 st p2 y in
-    let k = num-ran 4 s p2 op p3 z in
-    let e1 : p1 ≡ at + 16 = omega (arith, i .2) in
-    let e2 : p2 ≡ at + 20 = omega (arith, i .2, j .2) in
-    let e3 : p3 ≡ at + 24 = omega (arith, i .2, j .2, k .2) in
-    let r : at + 24 ≤ length s = omega (arith, e2, k .0) in
+    let i = bytes-read 16 s at d p1 x in
+    let j = number-read 4 s p1 st p2 y in
+    let k = number-read 4 s p2 op p3 z in
+    let e1 : p1 ≡ at + 16 = omega (arith, i .end) in
+    let e2 : p2 ≡ at + 20 = omega (arith, i .end, j .end) in
+    let e3 : p3 ≡ at + 24 = omega (arith, i .end, j .end, k .end) in
+    let r : at + 24 ≤ length s = omega (arith, e3, k .within) in
     let u : st ≡ beAt 4 s (at + 16) = num-at 4 s p1 st p2 y ∙ ap (beAt 4 s) e1 in
     let v : op ≡ beAt 4 s (at + 20) = num-at 4 s p2 op p3 z ∙ ap (beAt 4 s) e2 in
     let n : length (bytesFrom 16 s at) ≡ 16 = length-bytes 16 s at (omega (arith, r)) in
@@ -69,8 +69,8 @@ error-back s at e p b h =
     let x = ran _ _ _ _ h in
     let y = ran _ _ _ _ (x .rest) in
     let z = ran _ _ _ _ (y .rest) in
-    let k = pick-ok (errorFits (y .item) (z .item)) _ 27 e p (z .rest) in
-    rw (← same-place (k .1)) (error-parts s at (x .item) (x .next) (y .item) (y .next) (z .item) (z .next) b (x .first) (y .first) (z .first) (k .0))
+    let k = passed (errorFits (y .item) (z .item)) _ 27 e p (z .rest) in
+    rw (← same-place (k .chosen)) (error-parts s at (x .item) (x .next) (y .item) (y .next) (z .item) (z .next) b (x .first) (y .first) (z .first) (k .test))
 
 -- ---- a run of errors
 
@@ -121,47 +121,42 @@ pub record HeadBack (h : ReportHead) (s : List ℕ) (at p : ℕ) : Type 0 where
   pub some : 1 ≤ h .errors
   pub few : h .errors ≤ 16
 
-inside-ok : {A : Type 0} (x : Answer A) (at : ℕ) (a : A) (p : ℕ) → inside x at ≡ ok a p → (x ≡ accepted a) × (at ≡ p)
-unfolding inside
-inside-ok (accepted b) at a p h = (ap accepted (same-value h), same-place h)
-inside-ok (refused n) at a p h = let z : _≡_ {A = ℕ} 0 1 = cc in absurd (omega arith)
-
 abbrev headWith : ℕ → ℕ → List ℕ → ℕ → ReportHead
 headWith offset len stateid errors = record { offset = offset; length = len; stateid = stateid; errors = errors }
 
 head-parts : (s : List ℕ) (at o p1 l p2 x p3 : ℕ) (st : Part) (p4 n p5 : ℕ) → AllBytes s → numAt 8 s at ≡ ok o p1 → numAt 8 s p1 ≡ ok l p2
-    → inside (rangeLast o l) p2 ≡ ok x p3 → bytesAt 16 s p3 ≡ ok st p4 → countAt 1 16 s p4 ≡ ok n p5
+    → asItem (rangeLast o l) p2 ≡ ok x p3 → bytesAt 16 s p3 ≡ ok st p4 → countAt 1 16 s p4 ≡ ok n p5
     → HeadBack (headWith o l (bytesFrom 16 s (st .start)) n) s at p5
 unfolding headBytes
 head-parts s at o p1 l p2 x p3 st p4 n p5 b f g h i j =
-    let f' = num-ran 8 s at o p1 f in
-    let g' = num-ran 8 s p1 l p2 g in
-    let h' = inside-ok (rangeLast o l) p2 x p3 h in
-    let i' = bytes-ran 16 s p3 st p4 i in
-    let j' = count-ran 1 16 s p4 n p5 j in
-    let k = num-ran 4 s p4 n p5 (j' .0) in
-    let begin : st .start ≡ at + 16 = ap (λ (q : Part). q .start) (i' .1) ∙ omega (arith, f' .2, g' .2, h' .1) in
-    let e1 : p1 ≡ at + 8 = f' .2 in
-    let e4 : p4 ≡ at + 32 = omega (arith, f' .2, g' .2, h' .1, i' .2) in
+    let f' = number-read 8 s at o p1 f in
+    let g' = number-read 8 s p1 l p2 g in
+    let h' = item-accepted (rangeLast o l) p2 x p3 h in
+    let i' = bytes-read 16 s p3 st p4 i in
+    let j' = count-read 1 16 s p4 n p5 j in
+    let k = j' .number in
+    let begin : st .start ≡ at + 16 = ap (λ (q : Part). q .start) (i' .value) ∙ omega (arith, f' .end, g' .end, h' .1) in
+    let e1 : p1 ≡ at + 8 = f' .end in
+    let e4 : p4 ≡ at + 32 = omega (arith, f' .end, g' .end, h' .1, i' .end) in
     let z = bytesFrom 16 s (st .start) in
-    let r : st .start + 16 ≤ length s = omega (arith, begin, e4, k .0) in
+    let r : st .start + 16 ≤ length s = omega (arith, begin, e4, k .end, k .within) in
     let z16 : length z ≡ 16 = length-bytes 16 s (st .start) r in
     let zs : Stands z s (at + 16) = rw begin (bytes-are 16 s (at + 16) (omega (arith, r, begin))) in
     let o8 = length-be 8 o in
     let l8 = length-be 8 l in
-    let os = be-stands 8 s at o b (f' .0) (f' .1) in
-    let ls : Stands (beBytes 8 l) s (at + 8) = rw e1 at (be-stands 8 s p1 l b (g' .0) (g' .1)) in
-    let ns : Stands (beBytes 4 n) s (at + 32) = rw e4 at (be-stands 4 s p4 n b (k .0) (k .1)) in
+    let os = be-stands 8 s at o b (omega (arith, f' .end, f' .within)) (f' .value) in
+    let ls : Stands (beBytes 8 l) s (at + 8) = rw e1 at (be-stands 8 s p1 l b (omega (arith, g' .end, g' .within)) (g' .value)) in
+    let ns : Stands (beBytes 4 n) s (at + 32) = rw e4 at (be-stands 4 s p4 n b (omega (arith, k .end, k .within)) (k .value)) in
     record {
       stands = stands-join (beBytes 8 o) (beBytes 8 l ++ (z ++ beBytes 4 n)) s at (at + 8) (omega (arith, o8)) os
           (stands-join (beBytes 8 l) (z ++ beBytes 4 n) s (at + 8) (at + 16) (omega (arith, l8)) ls
           (stands-join z (beBytes 4 n) s (at + 16) (at + 32) (omega (arith, z16)) zs ns));
       size = length-head (headWith o l z n) z16;
-      place = omega (arith, e4, k .2);
+      place = omega (arith, e4, k .end);
       last = x;
       range = h' .0;
-      some = j' .1;
-      few = j' .2;
+      some = j' .low;
+      few = j' .high;
     }
 
 moved : (s : List ℕ) (at : ℕ) (h h' : ReportHead) (p p' : ℕ) → ok h p ≡ ok h' p' → HeadBack h s at p → HeadBack h' s at p'

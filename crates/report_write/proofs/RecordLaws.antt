@@ -2,7 +2,7 @@
 use Prim.Native.Nat.{ℕ, zero, suc, _+_, _-_, _*_, _≤_, _<_}
 use mathlib.Core.Path.{_≡_, refl, ap}
 use mathlib.Core.List.{List, [], _∷_, _++_}
-use mathlib.Core.Bool.{Bool, true, false, _&&_}
+use mathlib.Core.Bool.{Bool, true, _&&_}
 use native.Mathlib.Omega.{arith}
 use native.Mathlib.Nat.{add-zero}
 use native.Mathlib.Numerals.{add-one}
@@ -10,10 +10,10 @@ use borrow.Author.Tests.{leb-true}
 use lib.Dec.{leb}
 use lib.ListN.{length, take, drop, getD}
 use lib.Seq.{drop-cons}
-use Rattle.base.specs.Answer.{Answer, accepted, refused, given, pick}
+use Rattle.base.specs.Answer.{accepted, given}
 use Rattle.base.specs.Ranges.{rangeLast}
+use Rattle.base.proofs.AnswerLaws.{both, gave, pick-accepted}
 use Rattle.numbers.specs.Numbers.{beAt}
-use Rattle.xdr.proofs.Accepted.{both}
 use Rattle.report.specs.Reports.{errorFits}
 use Rattle.report.specs.declared.ReportHead.{ReportHead}
 use Rattle.report_write.specs.Writing.{allFit, counts, ErrorRecord, errorsBytes, headBytes, judged, judgedOne, recordAt, recordHere, recordsFrom, reportsBytes}
@@ -109,17 +109,6 @@ reports-none hs i m es h = rw h
 
 -- ---- what an allowed report says
 
-pub given-accepted : {A B : Type 0} (x : Answer A) (next : A → Answer B) (b : B) → given x next ≡ accepted b
-    → (a : A) × (x ≡ accepted a) × (next a ≡ accepted b)
-unfolding given
-given-accepted (accepted a) next b h = (a, refl, h)
-given-accepted (refused n) next b h = let z : _≡_ {A = ℕ} 0 1 = cc in absurd (omega arith)
-
-pub pick-accepted : {A : Type 0} (t : Bool) (x : Answer A) (n : ℕ) (a : A) → pick t x (refused n) ≡ accepted a → (t ≡ true) × (x ≡ accepted a)
-unfolding pick
-pick-accepted true x n a h = (refl, h)
-pick-accepted false x n a h = let z : _≡_ {A = ℕ} 0 1 = cc in absurd (omega arith)
-
 pub record Allowed (h : ReportHead) (es : List ErrorRecord) : Type 0 where
   pub last : ℕ
   pub range : rangeLast (h .offset) (h .length) ≡ accepted last
@@ -130,8 +119,8 @@ pub record Allowed (h : ReportHead) (es : List ErrorRecord) : Type 0 where
 pub allowed : (h : ReportHead) (es : List ErrorRecord) → judgedOne h es ≡ accepted tt → Allowed h es
 unfolding judgedOne
 allowed h es e =
-    let a = given-accepted _ _ _ e in
-    let b = pick-accepted _ _ 8 _ (a .2) in
+    let a = gave _ _ _ e in
+    let b = pick-accepted _ _ 8 _ (a .rest) in
     let c = both (leb 1 (h .errors)) (leb (h .errors) 16) (b .0) in
     let d = pick-accepted (allFit es) _ 27 _ (b .1) in
-    record { last = a .0; range = a .1; some = leb-true 1 (h .errors) (c .0); few = leb-true (h .errors) 16 (c .1); fit = d .0 }
+    record { last = a .value; range = a .first; some = leb-true 1 (h .errors) (c .0); few = leb-true (h .errors) 16 (c .1); fit = d .0 }

@@ -9,20 +9,19 @@ use lib.Dec.{eqb, leb}
 use lib.ListN.{length, take, replicate, length-append, length-map, length-take}
 use lib.Seq.{take-at}
 use Rattle.base.specs.Answer.{accepted, given, pick}
-use Rattle.base.specs.Lists.{padded}
-use Rattle.numbers.specs.Numbers.{AllBytes, beBytes, beValue, beFrom, bytesFrom}
+use Rattle.base.specs.Lists.{Each, padded}
+use Rattle.base.proofs.AnswerLaws.{gave, pick-accepted, same-answer}
+use Rattle.numbers.specs.Numbers.{AllBytes, beBytes, beValue, beFrom}
 use Rattle.numbers.proofs.NumberLaws.{length-be}
 use Rattle.xdr.specs.Items.{countAt, numAt}
-use Rattle.xdr.specs.Res.{Res, ok, no, then, whole, manyAt}
-use Rattle.xdr.proofs.Accepted.{ran, many-length, same-value, same-place}
+use Rattle.xdr.specs.Res.{ok, then, whole, manyAt}
+use Rattle.xdr.proofs.Accepted.{Number, count-read, number-read, whole-read, ran, many-length, same-value, same-place}
 use Rattle.report.specs.Reports.{Report, reportAt, reportBody}
 use Rattle.report.specs.Answers.{headsOf}
 use Rattle.report.specs.declared.ReportHead.{ReportHead}
 use Rattle.report.proofs.ReportLaws.{body-accepted}
-use Rattle.report.proofs.Runs.{count-ran, num-ran}
-use Rattle.report_write.specs.Places.{Each, HeadFits, placed, RecordFits, recordsIn}
+use Rattle.report_write.specs.Places.{HeadFits, placed, RecordFits, recordsIn}
 use Rattle.report_write.specs.Writing.{bodyBytes, counts, ErrorRecord, fitted, judged, reportsBytes, reportsWritten}
-use Rattle.report_write.proofs.RecordLaws.{given-accepted, pick-accepted}
 use Rattle.report_write.proofs.ReadBack.{reports-back}
 use Rattle.report_write.proofs.Standing.{be-stands, num-stands, Stands, stands-join, stands-parts, stands-whole, whole-stands}
 use Rattle.report_write.proofs.Written.{placed-records, reports-stand}
@@ -41,12 +40,10 @@ unfolding reportsWritten fitted
 wrote count heads es room bs h =
     let a = pick-accepted (leb count 8) _ 8 bs h in
     let b = pick-accepted (eqb (counts (take count heads)) (length es)) _ 8 bs (a .1) in
-    let c = given-accepted _ _ bs (b .1) in
-    let d = pick-accepted _ _ 26 bs (c .2) in
-    let e : bodyBytes (take count heads) es ≡ bs = accepted-same _ _ (d .1) in
-    record { few = leb-true count 8 (a .0); sum = eqb-true (counts (take count heads)) (length es) (b .0); allowed = c .1; bytes = e } where
-      accepted-same : (x y : List ℕ) → accepted x ≡ accepted y → x ≡ y
-      accepted-same x y e = cc
+    let c = gave _ _ bs (b .1) in
+    let d = pick-accepted _ _ 26 bs (c .rest) in
+    let e : bodyBytes (take count heads) es ≡ bs = same-answer (d .1) in
+    record { few = leb-true count 8 (a .0); sum = eqb-true (counts (take count heads)) (length es) (b .0); allowed = c .first; bytes = e }
 
 -- ---- a count that stands is read
 
@@ -87,51 +84,43 @@ pub record ReadAll (bs : List ℕ) (rs : List Report) : Type 0 where
   pub reports : manyAt reportAt (length rs) bs 4 ≡ ok rs place
   pub statistics : numAt 4 bs place ≡ ok 0 (length bs)
 
-whole-accepted : {A : Type 0} (s : List ℕ) (x : Res A) (a : A) → whole s x ≡ accepted a → x ≡ ok a (length s)
-unfolding whole
-whole-accepted {A} s (ok b p) a h = go (pick-accepted (eqb p (length s)) (accepted b) 2 a h) where
-  go : (eqb p (length s) ≡ true) × (accepted b ≡ accepted a) → ok b p ≡ ok a (length s)
-  go k = let e : p ≡ length s = eqb-true p (length s) (k .0) in let f : b ≡ a = cc (k .1) in rw (e, f)
-whole-accepted s (no n) a h = let z : _≡_ {A = ℕ} 0 1 = cc in absurd (omega arith)
-
 read-parts : (bs : List ℕ) (rs : List Report) (n p : ℕ) (qs : List Report) (q k z : ℕ) → countAt 0 8 bs 0 ≡ ok n p → manyAt reportAt n bs p ≡ ok qs q
     → countAt 0 0 bs q ≡ ok k z → ok qs z ≡ ok rs (length bs) → ReadAll bs rs
 read-parts bs rs n p qs q k z a b c d =
-    let a' = count-ran 0 8 bs 0 n p a in
-    let c' = count-ran 0 0 bs q k z c in
+    let a' = count-read 0 8 bs 0 n p a in
+    let c' = count-read 0 0 bs q k z c in
     let e : qs ≡ rs = same-value d in
     let f : z ≡ length bs = same-place d in
     let m : n ≡ length rs = sym (many-length reportAt n bs p qs q b) ∙ ap length e in
-    let p4 : p ≡ 4 = omega (arith, num-ran 4 bs 0 n p (a' .0) .2) in
-    let k0 : k ≡ 0 = omega (arith, c' .2) in
+    let p4 : p ≡ 4 = omega (arith, a' .number .end) in
+    let k0 : k ≡ 0 = omega (arith, c' .high) in
     record {
       place = q;
-      few = omega (arith, m, a' .2);
-      count = rw (m, p4) at (a' .0);
+      few = omega (arith, m, a' .high);
+      count = rw (m, p4) at (a' .read);
       reports = rw (m, p4, e) at b;
-      statistics = rw (k0, f) at (c' .0);
+      statistics = rw (k0, f) at (c' .read);
     }
 
 pub read-all : (bs : List ℕ) (rs : List Report) → reportBody bs ≡ accepted rs → ReadAll bs rs
 unfolding reportBody
 read-all bs rs h =
-    let a = ran _ _ _ _ (whole-accepted bs _ rs h) in
+    let a = ran _ _ _ _ (whole-read bs _ rs h) in
     let b = ran _ _ _ _ (a .rest) in
     let c = ran _ _ _ _ (b .rest) in
     read-parts bs rs (a .item) (a .next) (b .item) (b .next) (c .item) (c .next) (a .first) (b .first) (c .first) (c .rest)
 
 body-back : (bs : List ℕ) (hs : List ReportHead) (es : List ErrorRecord) (n q : ℕ) → AllBytes bs → length hs ≡ n
-    → (0 + 4 ≤ length bs) × (n ≡ beValue (bytesFrom 4 bs 0)) × (4 ≡ 0 + 4) → Stands (reportsBytes hs es) bs 4 → q ≡ 4 + length (reportsBytes hs es)
-    → (q + 4 ≤ length bs) × (0 ≡ beValue (bytesFrom 4 bs q)) × (length bs ≡ q + 4) → bodyBytes hs es ≡ bs
+    → Number 4 bs 0 n 4 → Stands (reportsBytes hs es) bs 4 → q ≡ 4 + length (reportsBytes hs es) → Number 4 bs q 0 (length bs) → bodyBytes hs es ≡ bs
 unfolding bodyBytes
 body-back bs hs es n q b e c w p z =
     let n4 = length-be 4 (length hs) in
-    let first = be-stands 4 bs 0 (length hs) b (c .0) (e ∙ c .1) in
-    let last = be-stands 4 bs q 0 b (z .0) (z .1) in
+    let first = be-stands 4 bs 0 (length hs) b (c .within) (e ∙ c .value) in
+    let last = be-stands 4 bs q 0 b (omega (arith, z .end)) (z .value) in
     let all = stands-join (beBytes 4 (length hs)) (reportsBytes hs es ++ beBytes 4 0) bs 0 4 (omega (arith, n4)) first (stands-join (reportsBytes hs es) (beBytes 4 0) bs 4 q p w last) in
     let s = length-append (beBytes 4 (length hs)) (reportsBytes hs es ++ beBytes 4 0) in
     let t = length-append (reportsBytes hs es) (beBytes 4 0) in
-    whole-stands _ bs all (omega (arith, s, t, n4, length-be 4 0, p, z .2))
+    whole-stands _ bs all (omega (arith, s, t, n4, length-be 4 0, p, z .end))
 
 -- Writing what was read gives the same bytes.
 pub writing-what-was-read : (bs : List ℕ) (rs : List Report) (room : ℕ) → AllBytes bs → length bs ≤ room → reportBody bs ≡ accepted rs
@@ -142,9 +131,9 @@ writing-what-was-read bs rs room b r h =
     let hs = map (λ (x : Report). x .head) rs in
     let n = length-map rs (λ (x : Report). x .head) in
     let t : take (length rs) (headsOf rs) ≡ hs = take-at hs _ (length rs) n in
-    let c = num-ran 4 bs 0 (length rs) 4 (a .count) in
-    let z = num-ran 4 bs (a .place) 0 (length bs) (a .statistics) in
-    let w = reports-back (length rs) bs 4 rs (a .place) b (omega (arith, c .0)) (a .reports) in
+    let c = number-read 4 bs 0 (length rs) 4 (a .count) in
+    let z = number-read 4 bs (a .place) 0 (length bs) (a .statistics) in
+    let w = reports-back (length rs) bs 4 rs (a .place) b (c .within) (a .reports) in
     let e : bodyBytes hs (recordsIn bs rs) ≡ bs = body-back bs hs (recordsIn bs rs) (length rs) (a .place) b n c (w .stands) (w .place) z in
     rw (le-leb (length rs) 8 (a .few), t, eq-eqb _ _ (w .sum), w .allowed, e, le-leb (length bs) room r)
 

@@ -10,16 +10,16 @@ use lib.Dec.{eqb, leb}
 use lib.ListN.{length, take, drop, length-append}
 use lib.Seq.{length-take-le, sets, sets-eq, length-sets}
 use Rattle.base.specs.Answer.{Answer, accepted, refused, given, pick}
+use Rattle.base.proofs.AnswerLaws.{both, gave}
 use Rattle.buffers.specs.Buffers.{stored}
 use Rattle.numbers.specs.Numbers.{beAt, beBytes, beValue, bytesFrom}
 use Rattle.numbers.proofs.NumberLaws.{length-be, length-bytes}
 use Rattle.buffers.proofs.StoredLaws.{fits-stored, length-stored, sets-append, stored-then}
-use Rattle.xdr.proofs.Accepted.{both}
 use Rattle.report.specs.Reports.{errorFits}
 use Rattle.report.specs.declared.ReportHead.{ReportHead}
-use Rattle.report_write.specs.Writing.{after, allFit, bodyBytes, counts, ErrorRecord, errorBytes, errorsBytes, fitted, headBytes, judged, judgedOne, recordAt, recordHere, recordsFrom, reportsBytes, reportsWritten, stateidsWhole}
+use Rattle.report_write.specs.Writing.{outputAfter, allFit, bodyBytes, counts, ErrorRecord, errorBytes, errorsBytes, fitted, headBytes, judged, judgedOne, recordAt, recordHere, recordsFrom, reportsBytes, reportsWritten, stateidsWhole}
 use Rattle.report_write.specs.Answers.{lengthOf}
-use Rattle.report_write.proofs.RecordLaws.{allowed, drop-records, given-accepted, length-records, records-next, take-records}
+use Rattle.report_write.proofs.RecordLaws.{allowed, drop-records, length-records, records-next, take-records}
 
 -- ---- how long each part is
 
@@ -99,10 +99,10 @@ pub judged-inside : (hs : List ReportHead) (k : ℕ) (errors : List ℕ) → jud
 unfolding counts
 judged-inside [] k errors e h = (omega arith, omega arith)
 judged-inside (h ∷ hs) k errors e n =
-    let a = given-accepted _ _ _ (sym (judged-cons h hs k errors) ∙ e) in
-    let b = allowed h _ (a .1) in
+    let a = gave _ _ _ (sym (judged-cons h hs k errors) ∙ e) in
+    let b = allowed h _ (a .first) in
     let c = fit-inside (h .errors) k errors (b .fit) n in
-    let d = judged-inside hs (k + h .errors) errors (a .2) c in
+    let d = judged-inside hs (k + h .errors) errors (a .rest) c in
     (omega (arith, d .0), omega (arith, d .1, b .few))
 
 -- the sizes of a body that is allowed
@@ -200,13 +200,13 @@ body-stored l hs es count size e s r n =
 
 -- ---- the whole answer, by what was found
 
-pub written-refused : (l : List ℕ) (x : Answer (List ℕ)) (n : ℕ) → x ≡ refused n → (refused n ≡ lengthOf x) × (l ≡ after l x)
-unfolding lengthOf after given
+pub written-refused : (l : List ℕ) (x : Answer (List ℕ)) (n : ℕ) → x ≡ refused n → (refused n ≡ lengthOf x) × (l ≡ outputAfter l x)
+unfolding lengthOf outputAfter given
 written-refused l x n e = rw e (refl, refl)
 
 pub written-accepted : (l m : List ℕ) (x : Answer (List ℕ)) (bs : List ℕ) (size : ℕ) → x ≡ accepted bs → size ≡ length bs → m ≡ bs ++ drop (length bs) l
-    → (accepted size ≡ lengthOf x) × (m ≡ after l x)
-unfolding lengthOf after given
+    → (accepted size ≡ lengthOf x) × (m ≡ outputAfter l x)
+unfolding lengthOf outputAfter given
 written-accepted l m x bs size e s k = rw e (ap accepted s, k)
 
 pub many-refused : (count : ℕ) (heads : List ReportHead) (es : List ErrorRecord) (room : ℕ) → 8 < count → reportsWritten count heads es room ≡ refused 8

@@ -8,17 +8,19 @@ use borrow.Author.Tests.{le-leb}
 use lib.ListN.{length, take, drop, length-append, length-drop, take-append-drop}
 use lib.Seq.{length-take-le}
 use Rattle.base.specs.Answer.{accepted, pick}
+use Rattle.base.specs.Lists.{Each}
+use Rattle.base.proofs.AnswerLaws.{both, gave}
 use Rattle.numbers.specs.Numbers.{beBytes, bytesFrom}
 use Rattle.numbers.proofs.NumberLaws.{length-be}
 use Rattle.xdr.specs.Items.{countAt}
-use Rattle.xdr.specs.Res.{ok, then, inside, manyAt}
-use Rattle.xdr.proofs.Accepted.{both}
-use Rattle.report.specs.Reports.{errorAt, errorFits, errorsEnd, headAt, reportAt}
+use Rattle.xdr.specs.Res.{ok, then, asItem, manyAt, endOf}
+use Rattle.xdr.proofs.EndLaws.{none-end, others-end}
+use Rattle.report.specs.Reports.{errorAt, errorFits, headAt, reportAt}
 use Rattle.report.specs.declared.ReportHead.{ReportHead}
-use Rattle.report.proofs.Runs.{errors-next, errors-none, report-ends}
-use Rattle.report_write.specs.Places.{Each, HeadFits, placed, RecordFits, recordsAt, recordsIn}
+use Rattle.report.proofs.Runs.{report-ends}
+use Rattle.report_write.specs.Places.{HeadFits, placed, RecordFits, recordsAt, recordsIn}
 use Rattle.report_write.specs.Writing.{allFit, counts, ErrorRecord, errorBytes, errorsBytes, headBytes, judged, recordHere, reportsBytes}
-use Rattle.report_write.proofs.RecordLaws.{Allowed, allowed, given-accepted}
+use Rattle.report_write.proofs.RecordLaws.{Allowed, allowed}
 use Rattle.report_write.proofs.Standing.{Stands, stands-parts, num-stands, bytes-stand, be-stands-at}
 use Rattle.report_write.proofs.StoringLaws.{length-error, length-head}
 
@@ -38,9 +40,9 @@ error-stands e s at f k w =
 -- ---- runs, heads, reports
 
 pub errors-stand : (es : List ErrorRecord) (s : List ℕ) (at : ℕ) → Each RecordFits es → allFit es ≡ true → Stands (errorsBytes es) s at
-    → errorsEnd (length es) s at ≡ ok tt (at + 24 * length es)
-unfolding errorsBytes allFit then
-errors-stand [] s at f k w = let e : at + 24 * 0 ≡ at = omega arith in rw e (errors-none 0 s at refl)
+    → endOf (manyAt errorAt (length es) s at) ≡ ok tt (at + 24 * length es)
+unfolding errorsBytes allFit
+errors-stand [] s at f k w = let e : at + 24 * 0 ≡ at = omega arith in rw e (none-end errorAt 0 s at refl)
 errors-stand (e ∷ es) s at f k w =
     let a = stands-parts (errorBytes e) (errorsBytes es) s at w in
     let b = both (errorFits (e .status) (e .operation)) (allFit es) k in
@@ -48,11 +50,11 @@ errors-stand (e ∷ es) s at f k w =
     let r = errors-stand es s (at + 24) (f .1) (b .1) (rw n at (a .1)) in
     let z : at + 24 * suc (length es) ≡ at + 24 + 24 * length es = omega arith in
     let m : suc (length es) - 1 ≡ length es = omega arith in
-    rw (z, errors-next (suc (length es)) s at (omega arith), m, error-stands e s at (f .0) (b .0) (a .0)) r
+    rw (z, others-end errorAt (suc (length es)) s at _ _ (omega arith) (error-stands e s at (f .0) (b .0) (a .0)), m) r
 
 pub head-stands : (h : ReportHead) (s : List ℕ) (at : ℕ) (es : List ErrorRecord) → HeadFits h → Allowed h es → Stands (headBytes h) s at
     → headAt s at ≡ ok h (at + 36)
-unfolding headBytes headAt then inside pick countAt
+unfolding headBytes headAt then asItem pick countAt
 head-stands h s at es f k w =
     let o = beBytes 8 (h .offset) in
     let l = beBytes 8 (h .length) in
@@ -114,15 +116,15 @@ reports-stand [] es s at f g j c w = let e : at + 0 ≡ at = omega arith in rw e
 reports-stand (h ∷ hs) es s at f g j c w =
     let xs = take (h .errors) es in
     let ys = drop (h .errors) es in
-    let a = given-accepted _ _ _ j in
-    let k = allowed h xs (a .1) in
+    let a = gave _ _ _ j in
+    let k = allowed h xs (a .first) in
     let n : length xs ≡ h .errors = length-take-le (h .errors) es (omega (arith, c)) in
     let w' : Stands (headBytes h ++ errorsBytes xs ++ reportsBytes hs ys) s at = rw (append-assoc (headBytes h) (errorsBytes xs) (reportsBytes hs ys)) w in
     let b = stands-parts (headBytes h ++ errorsBytes xs) (reportsBytes hs ys) s at w' in
     let m : length (errorsBytes xs) ≡ 24 * h .errors = length-errors-fit xs (taken-each (h .errors) es g) ∙ ap (λ (i : ℕ). 24 * i) n in
     let p : at + length (headBytes h ++ errorsBytes xs) ≡ at + 36 + 24 * h .errors = rw (length-append (headBytes h) (errorsBytes xs)) (omega (arith, length-head h (f .0 .2), m)) in
     let c' : counts hs ≡ length ys = rw (length-drop (h .errors) es) (omega (arith, c)) in
-    let r = reports-stand hs ys s (at + 36 + 24 * h .errors) (f .1) (dropped-each (h .errors) es g) (a .2) c' (rw p at (b .1)) in
+    let r = reports-stand hs ys s (at + 36 + 24 * h .errors) (f .1) (dropped-each (h .errors) es g) (a .rest) c' (rw p at (b .1)) in
     let z : at + 36 + 24 * h .errors + length (reportsBytes hs ys) ≡ at + length (headBytes h ++ (errorsBytes xs ++ reportsBytes hs ys)) =
     rw (length-append (headBytes h) (errorsBytes xs ++ reportsBytes hs ys), length-append (errorsBytes xs) (reportsBytes hs ys)) (omega (arith, length-head h (f .0 .2), m)) in
     rw (report-stands h s at xs (f .0) (taken-each (h .errors) es g) k n (b .0), r, z)

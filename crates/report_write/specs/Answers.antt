@@ -11,17 +11,17 @@ use Rattle.report_write.specs.declared.body.Written.the-variants as writ
 use Rattle.report_write.specs.declared.judge.Judged.{Judged}
 use Rattle.report_write.specs.declared.judge.Judged.the-variants as judged
 
-abbrev pub answerWritten : Written → Answer ℕ
-answerWritten (written.Length n) = accepted n
-answerWritten (written.Refused e) = refused (numberOf e)
+abbrev pub answerOfWritten : Written → Answer ℕ
+answerOfWritten (written.Length n) = accepted n
+answerOfWritten (written.Refused e) = refused (numberOf e)
 
 -- the length of what is written
 unfoldable pub lengthOf : Answer (List ℕ) → Answer ℕ
 lengthOf a = given a λ bs. accepted (length bs)
 
-abbrev pub answerJudged : Judged → Answer (Unit {0})
-answerJudged judged.Allowed = accepted tt
-answerJudged (judged.Refused e) = refused (numberOf e)
+abbrev pub answerOfJudged : Judged → Answer (Unit {0})
+answerOfJudged judged.Allowed = accepted tt
+answerOfJudged (judged.Refused e) = refused (numberOf e)
 
 -- The refusal in an answer; of an answer without one, the first of the refusals.
 abbrev pub whyJudged : Judged → Refusal

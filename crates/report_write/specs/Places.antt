@@ -29,7 +29,3 @@ HeadFits h = (h .offset < 256 ^ 8) × (h .length < 256 ^ 8) × (length (h .state
 
 abbrev pub RecordFits : ErrorRecord → Type 0
 RecordFits e = (length (e .device) ≡ 16) × (e .status < 256 ^ 4) × (e .operation < 256 ^ 4)
-
-abbrev pub Each : {A : Type 0} → (A → Type 0) → List A → Type 0
-Each P [] = Unit {0}
-Each P (x ∷ xs) = P x × Each P xs

@@ -100,6 +100,6 @@ reportsWritten count heads es room =
     (refused 8)
 
 -- "Bytes of the output beyond the body stay"; a refusal "changes nothing lent"
-unfoldable pub after : List ℕ → Answer (List ℕ) → List ℕ
-after l (accepted bs) = bs ++ drop (length bs) l
-after l (refused n) = l
+unfoldable pub outputAfter : List ℕ → Answer (List ℕ) → List ℕ
+outputAfter l (accepted bs) = bs ++ drop (length bs) l
+outputAfter l (refused n) = l

@@ -8,8 +8,8 @@ use base::Refusal;
 use report::ReportHead;
 ghost use mathlib.Core.Path.{_≡_};
 ghost use lib.ListN.{length};
-ghost use Rattle.report_write.specs.Writing.{after, recordsFrom, reportsWritten};
-ghost use Rattle.report_write.specs.Answers.{answerWritten, lengthOf};
+ghost use Rattle.report_write.specs.Writing.{outputAfter, recordsFrom, reportsWritten};
+ghost use Rattle.report_write.specs.Answers.{answerOfWritten, lengthOf};
 
 pub enum Written {
     Length(usize),
@@ -24,8 +24,8 @@ pub fn write_reports(
     errors: &[u8],
     out: &mut [u8],
 ) -> Written
-    ensures { λ r. ⌜ (answerWritten r ≡ lengthOf (reportsWritten count heads (recordsFrom «list_length» 0 (now (errors .entry))) (length (now (out .entry)))))
-        × (now (out .exit) ≡ after (now (out .entry)) (reportsWritten count heads (recordsFrom «list_length» 0 (now (errors .entry))) (length (now (out .entry))))) ⌝ }
+    ensures { λ r. ⌜ (answerOfWritten r ≡ lengthOf (reportsWritten count heads (recordsFrom «list_length» 0 (now (errors .entry))) (length (now (out .entry)))))
+        × (now (out .exit) ≡ outputAfter (now (out .entry)) (reportsWritten count heads (recordsFrom «list_length» 0 (now (errors .entry))) (length (now (out .entry))))) ⌝ }
 {
     if 8 < count {
         return Written::Refused(Refusal::OutsideLimit);

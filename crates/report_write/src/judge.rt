@@ -7,7 +7,7 @@ ghost use Prim.Native.Nat.{_+_, _≤_};
 ghost use lib.ListN.{length, take};
 ghost use mathlib.Core.Bool.{true};
 ghost use Rattle.report_write.specs.Writing.{allFit, counts, judged, judgedOne, recordsFrom, stateidsWhole};
-ghost use Rattle.report_write.specs.Answers.{answerJudged, whyJudged};
+ghost use Rattle.report_write.specs.Answers.{answerOfJudged, whyJudged};
 
 pub enum Judged {
     Allowed,
@@ -62,7 +62,7 @@ fn errors_fit(errors: &[u8], first: usize, n: usize) -> bool
 // One report whose first error is record k.
 fn judge_one(head: ReportHead, errors: &[u8], k: usize) -> Judged
     requires { ⌜ k ≤ 1024 ⌝ }
-    ensures { λ r. ⌜ answerJudged r ≡ judgedOne head (recordsFrom (head .errors) k (now (errors .entry))) ⌝ }
+    ensures { λ r. ⌜ answerOfJudged r ≡ judgedOne head (recordsFrom (head .errors) k (now (errors .entry))) ⌝ }
 {
     let last = base::range_last(head.offset, head.length);
     let Last::At(_) = last else {
@@ -84,7 +84,7 @@ fn judge_one(head: ReportHead, errors: &[u8], k: usize) -> Judged
 // The reports in order.
 pub(crate) fn judge(heads: [ReportHead; 8], count: usize, errors: &[u8]) -> Judged
     requires { ⌜ count ≤ 8 ⌝ }
-    ensures { λ r. ⌜ answerJudged r ≡ judged (take count heads) (recordsFrom (counts (take count heads)) 0 (now (errors .entry))) ⌝ }
+    ensures { λ r. ⌜ answerOfJudged r ≡ judged (take count heads) (recordsFrom (counts (take count heads)) 0 (now (errors .entry))) ⌝ }
 {
     let mut k: usize = 0;
     let mut i: usize = 0;

@@ -11,6 +11,7 @@ use native.Mathlib.Omega.{arith}
 use lib.ListN.{length, getD}
 use Rattle.base.specs.Answer.{Answer, accepted, refused, given, pick}
 use Rattle.base.specs.Ranges.{requestLast}
+use Rattle.base.proofs.AnswerLaws.{gave, never-accepted, never-refused, same-answer, same-refusal}
 use Rattle.layout.specs.Layouts.{Layout}
 use Rattle.layout.proofs.LayoutLaws.{accepted-limits}
 use Rattle.segments.specs.declared.Right.the-variants.{Granted}
@@ -22,7 +23,7 @@ use Rattle.route.specs.Routes.{Serving, iomodeFor, layoutIn, mirrorsName
 use Rattle.route.specs.Stripes.{pieceLength, stripeOf}
 use Rattle.route.specs.declared.piece.Piece.{Piece}
 use Rattle.route.proofs.MirrorLaws.{some-named}
-use Rattle.route.proofs.ServedLaws.{gave, grant-found, never-accepted, never-refused, request-refused, same-answer, same-refusal, served-limits, served-refused, what-serves}
+use Rattle.route.proofs.ServedLaws.{grant-found, request-refused, served-limits, served-refused, what-serves}
 use Rattle.route.proofs.StripeLaws.{one-stripe, piece-in-len, piece-in-rest, piece-in-unit-rest, piece-some, same-unit, stripe-by-unit}
 
 -- ---- a request's answer by parts
@@ -53,7 +54,7 @@ module _ (write : Bool) (t : Table) (store : List ℕ) (offset len : ℕ) where
               range = r .first;
               serving = s .value;
               serves = s .first;
-              piece = same-answer (pieceAt write store offset len (s .value)) p (s .rest);
+              piece = same-answer (s .rest);
             }
         go false h k = never-accepted 20 p k
 
@@ -115,7 +116,7 @@ module _ (write : Bool) (t : Table) (store : List ℕ) (offset len : ℕ) where
           let v = r .serving in
           let w = what-serves t store offset write v (r .serves) in
           let i : v .grant .slot ≡ p .slot .0 = ap (λ (q : Piece). q .slot .0) (r .piece) in
-          same-answer (v .layout) l (sym (w .layout) ∙ (ap (λ (j : ℕ). layoutIn store j) i ∙ h))
+          same-answer (sym (w .layout) ∙ (ap (λ (j : ℕ). layoutIn store j) i ∙ h))
 
       -- with more than one server, each byte of the piece is in the unit of the first
       bytes-in-unit : 1 < l .summary .servers → (x : ℕ) → offset ≤ x → x < offset + p .length → x / l .summary .unit ≡ offset / l .summary .unit

@@ -19,7 +19,7 @@ use Rattle.segments.specs.Segments.{READ, RW, listIn, listOf, within}
 use Rattle.lookup.proofs.LookupLaws.{next-segment}
 use Rattle.store.specs.Store.{bodyIn, slotAt}
 use Rattle.reference.specs.Sound.{sound}
-use Rattle.route.specs.Answers.{servingAnswer}
+use Rattle.route.specs.Answers.{answerOfServing}
 use Rattle.route.specs.Routes as routes
 use Rattle.route.specs.Routes.{grantAt, grantOf, layoutIn, mirrorsNamed, noReads, pieceAt, readFromRw, readServed, routed, served, servedBy, writeServed}
 use Rattle.route.specs.Stripes.{pieceLength, stripeOf}
@@ -50,8 +50,8 @@ pick-false t a b e = rw e
 -- ---- what serves
 
 pub refused-serving : (r : Serving) (e : Refusal) → r ≡ record { answer = serving.Refused e; starts = replicate 128 0 }
-    → servingAnswer (r .answer) (r .starts) ≡ refused (numberOf e)
-refused-serving r e h = ap (λ (r : Serving). servingAnswer (r .answer) (r .starts)) h
+    → answerOfServing (r .answer) (r .starts) ≡ refused (numberOf e)
+refused-serving r e h = ap (λ (r : Serving). answerOfServing (r .answer) (r .starts)) h
 
 -- the body that is read is the slot's
 pub layout-in : (store slot body : List ℕ) (i : ℕ) → slot ≡ slotAt store i → body ≡ bodyIn slot → layoutBody body ≡ layoutIn store i

@@ -12,8 +12,8 @@ use Rattle.base.specs.Answer.{Answer, accepted, refused, given, pick}
 use Rattle.base.specs.Ranges.{largestSum, requestLast}
 use Rattle.base.specs.declared.iomode.Iomode.{Iomode}
 use Rattle.base.specs.declared.iomode.Iomode.the-variants.{Read, ReadWrite}
+use Rattle.base.proofs.AnswerLaws.{both, gave, never-accepted, never-refused, same-answer, same-refusal}
 use Rattle.xdr.specs.Items.{allZero}
-use Rattle.xdr.proofs.Accepted.{both}
 use Rattle.layout.specs.Layouts.{Layout, layoutBody, unitFits}
 use Rattle.layout.proofs.LayoutLaws.{accepted-limits}
 use Rattle.segments.specs.declared.Right.{Right}
@@ -25,30 +25,6 @@ use Rattle.segments.specs.Segments.{Mode, READ, RW, anyNames, blank, isNamed, i
 use Rattle.store.specs.Store.{bodyIn, kindIn, lengthIn, slotAt}
 use Rattle.reference.specs.Sound.{allBlank, apartFromNext, hasSlot, inOrder, isAccepted, noTwoAlike, segmentsSound, slotSound, slotsIn, slotsSound, sound}
 use Rattle.route.specs.Routes.{Grant, Serving, grantAt, grantOf, iomodeFor, layoutIn, noReads, readFromRw, readServed, served, servedBy, writeServed}
-
-pub never-accepted : {A B : Type 0} (n : ℕ) (a : A) → refused n ≡ accepted a → B
-never-accepted n a e = let z : _≡_ {A = ℕ} 0 1 = cc in absurd (omega arith)
-
-pub never-refused : {A B : Type 0} (a : A) (n : ℕ) → accepted a ≡ refused n → B
-never-refused a n e = let z : _≡_ {A = ℕ} 0 1 = cc in absurd (omega arith)
-
-pub same-answer : {A : Type 0} (a b : A) → accepted a ≡ accepted b → a ≡ b
-same-answer a b e = cc
-
-pub same-refusal : {A : Type 0} (n k : ℕ) → _≡_ {A = Answer A} (refused n) (refused k) → n ≡ k
-same-refusal n k e = cc
-
--- ---- an answer by parts
-
-pub record Gave {A B : Type 0} (x : Answer A) (f : A → Answer B) (b : B) : Type 0 where
-  pub value : A
-  pub first : x ≡ accepted value
-  pub rest : f value ≡ accepted b
-
-pub gave : {A B : Type 0} (x : Answer A) (f : A → Answer B) (b : B) → given x f ≡ accepted b → Gave x f b
-unfolding given
-gave (accepted a) f b e = record { value = a; first = refl; rest = e }
-gave (refused n) f b e = never-accepted n b e
 
 -- ---- a granted byte
 
@@ -64,7 +40,7 @@ pub record Found (l : List Segment) (x : ℕ) (g : Grant) : Type 0 where
 granted-is : (r : Right) (n : ℕ) (g : Grant) → grantOf r n ≡ accepted g → (r ≡ Granted (record { 0 = g .slot })) × (n ≡ g .last)
 granted-is None n g e = never-accepted 17 g e
 granted-is (Granted s) n g e =
-    let f = same-answer (record { slot = s .0; last = n }) g e in
+    let f = same-answer {a = record { slot = s .0; last = n }} e in
     (ap (λ (h : Grant). Granted (record { 0 = h .slot })) f, ap (λ (h : Grant). h .last) f)
 granted-is (Recalled s) n g e = never-accepted 17 g e
 
@@ -133,7 +109,7 @@ module _ (t : Table) (store : List ℕ) (x : ℕ) where
   unfolding servedBy
   by-slot write m g v w e h =
       let r = gave _ _ v h in
-      let f = same-answer (record { iomode = iomodeFor m; grant = g; layout = r .value }) v (r .rest) in
+      let f = same-answer {a = record { iomode = iomodeFor m; grant = g; layout = r .value }} (r .rest) in
       record {
         mode = m;
         iomode = ap (λ (u : Serving). u .iomode) (sym f);
@@ -155,7 +131,7 @@ module _ (t : Table) (store : List ℕ) (x : ℕ) where
       go : (u : Serving) → writeServed t store x ≡ accepted u → (b : Bool) → noReads (u .layout .summary .flags) ≡ b
           → pick b (refused 17) (accepted u) ≡ accepted v → (writeServed t store x ≡ accepted v) × (noReads (v .layout .summary .flags) ≡ false)
       go u e true k p = never-accepted 17 v p
-      go u e false k p = (e ∙ p, ap (λ (y : Serving). noReads (y .layout .summary .flags)) (sym (same-answer u v p)) ∙ k)
+      go u e false k p = (e ∙ p, ap (λ (y : Serving). noReads (y .layout .summary .flags)) (sym (same-answer p)) ∙ k)
 
   pub what-serves : (write : Bool) (v : Serving) → served write t store x ≡ accepted v → Serves write t store x v
   what-serves true v h = write-serves true v h

@@ -22,10 +22,10 @@ abbrev pub whyGrant : ReadGrant → Refusal
 whyGrant (grant.Value g) = RightMissing
 whyGrant (grant.Refused e) = e
 
-abbrev pub servingAnswer : ServingAnswer → List ℕ → Answer routes.Serving
-servingAnswer (serving.Value m g s) starts =
+abbrev pub answerOfServing : ServingAnswer → List ℕ → Answer routes.Serving
+answerOfServing (serving.Value m g s) starts =
     accepted (record { iomode = m; grant = record { slot = g .slot .0; last = g .last }; layout = record { summary = s; starts = starts } })
-servingAnswer (serving.Refused e) starts = refused (numberOf e)
+answerOfServing (serving.Refused e) starts = refused (numberOf e)
 
 abbrev pub whyServing : ServingAnswer → Refusal
 whyServing (serving.Value m g s) = RightMissing

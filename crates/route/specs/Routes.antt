@@ -1,9 +1,9 @@
 -- "Where an I/O goes": by the right at its first byte, and the layout body under which that byte is held.
-use Prim.Native.Nat.{ℕ, _/_, _%_}
+use Prim.Native.Nat.{ℕ}
 use mathlib.Core.Bool.{Bool, true, false}
 use mathlib.Core.List.{List, [], _∷_}
-use lib.Dec.{eqb}
 use Rattle.base.specs.Answer.{Answer, accepted, refused, given, pick}
+use Rattle.base.specs.Bits.{bit}
 use Rattle.base.specs.Ranges.{requestLast}
 use Rattle.base.specs.declared.iomode.Iomode.{Iomode}
 use Rattle.base.specs.declared.iomode.Iomode.the-variants.{Read, ReadWrite}
@@ -42,10 +42,10 @@ layoutIn store slot = layoutBody (bodyIn (slotAt store slot))
 
 -- flag 4, the bit of that value: "no reads on a read-write layout"; flag 8: "write one mirror"
 abbrev pub noReads : ℕ → Bool
-noReads flags = eqb (flags / 4 % 2) 1
+noReads flags = bit 4 flags
 
 abbrev pub oneMirror : ℕ → Bool
-oneMirror flags = eqb (flags / 8 % 2) 1
+oneMirror flags = bit 8 flags
 
 -- ---- what serves
 

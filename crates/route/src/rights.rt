@@ -11,7 +11,7 @@ use segments::Table;
 ghost use mathlib.Core.Path.{_≡_};
 ghost use lib.ListN.{replicate};
 ghost use Rattle.segments.specs.Segments.{listOf, within};
-ghost use Rattle.route.specs.Answers.{answerOfGrant, servingAnswer, whyGrant};
+ghost use Rattle.route.specs.Answers.{answerOfGrant, answerOfServing, whyGrant};
 ghost use Rattle.route.specs.Routes.{grantAt, grantOf, readFromRw, served, servedBy, writeServed};
 
 // The slot of a granted segment's body, and its last byte.
@@ -93,7 +93,7 @@ fn why_grant(r: ReadGrant) -> Refusal
 }
 
 fn served_by(iomode: Iomode, store: &[u8], g: Grant) -> Serving
-    ensures { λ r. ⌜ servingAnswer (r .answer) (r .starts) ≡ servedBy iomode (now (store .entry)) (record { slot = g .slot .0; last = g .last }) ⌝ }
+    ensures { λ r. ⌜ answerOfServing (r .answer) (r .starts) ≡ servedBy iomode (now (store .entry)) (record { slot = g .slot .0; last = g .last }) ⌝ }
 {
     let l = layout::read_layout(store::slot_body(store::slot_bytes(store, g.slot)));
     let a = l.answer;
@@ -109,7 +109,7 @@ fn served_by(iomode: Iomode, store: &[u8], g: Grant) -> Serving
 
 // "A write needs RW granted."
 fn write_served(t: Table, store: &[u8], x: u64) -> Serving
-    ensures { λ r. ⌜ servingAnswer (r .answer) (r .starts) ≡ writeServed t (now (store .entry)) x ⌝ }
+    ensures { λ r. ⌜ answerOfServing (r .answer) (r .starts) ≡ writeServed t (now (store .entry)) x ⌝ }
 {
     let rw = t.rw;
     let h = grant_at(rw, x);
@@ -121,7 +121,7 @@ fn write_served(t: Table, store: &[u8], x: u64) -> Serving
 
 // ".. or RW granted under a body without flag 4"
 fn read_from_rw(t: Table, store: &[u8], x: u64) -> Serving
-    ensures { λ r. ⌜ servingAnswer (r .answer) (r .starts) ≡ readFromRw t (now (store .entry)) x ⌝ }
+    ensures { λ r. ⌜ answerOfServing (r .answer) (r .starts) ≡ readFromRw t (now (store .entry)) x ⌝ }
 {
     let v = write_served(t, store, x);
     let a = v.answer;
@@ -135,7 +135,7 @@ fn read_from_rw(t: Table, store: &[u8], x: u64) -> Serving
 }
 
 pub(crate) fn find_serving(write: bool, t: Table, store: &[u8], x: u64) -> Serving
-    ensures { λ r. ⌜ servingAnswer (r .answer) (r .starts) ≡ served write t (now (store .entry)) x ⌝ }
+    ensures { λ r. ⌜ answerOfServing (r .answer) (r .starts) ≡ served write t (now (store .entry)) x ⌝ }
 {
     if write {
         return write_served(t, store, x);

@@ -7,6 +7,7 @@ use native.Mathlib.Omega.{arith}
 use native.Mathlib.Decide.{decLe, decLt}
 use borrow.Author.Tests.{le-leb, leb-true}
 use lib.Dec.{leb}
+use Rattle.base.proofs.AnswerLaws.{both}
 use Rattle.segments.specs.declared.Right.{Right}
 use Rattle.segments.specs.declared.Right.the-variants.{None}
 use Rattle.segments.specs.declared.Segment.{Segment}
@@ -20,10 +21,6 @@ same-tests true true f g = refl
 same-tests true false f g = sym (f refl)
 same-tests false true f g = g refl
 same-tests false false f g = refl
-
-both : (a b : Bool) → (a && b) ≡ true → (a ≡ true) × (b ≡ true)
-both true b h = (refl, h)
-both false b h = absurd (false≢true h)
 
 -- a byte of the range that passes the test lies in a segment that meets the range
 pub meets-some : (p : Right → Bool) (lo hi b : ℕ) (l : List Segment) (x : ℕ) → p None ≡ false → Ord b l → lo ≤ x → x ≤ hi → p (rightAt l x) ≡ true

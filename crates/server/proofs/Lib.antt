@@ -1,2 +1,1 @@
-pub mod HandleLaws
 pub mod ServerLaws

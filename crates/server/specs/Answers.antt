@@ -12,30 +12,25 @@ use Rattle.server.specs.declared.item.Server.{Server}
 use Rattle.server.specs.declared.item.ReadServer.{ReadServer}
 use Rattle.server.specs.declared.item.ReadServer.the-variants as server
 
-abbrev pub resHead : ReadHead → Res ServerHead
-resHead (head.Value h c) = ok h (c .at)
-resHead (head.Refused e) = no (numberOf e)
+abbrev pub resOfHead : ReadHead → Res ServerHead
+resOfHead (head.Value h c) = ok h (c .at)
+resOfHead (head.Refused e) = no (numberOf e)
 
 abbrev pub whyHead : ReadHead → Refusal
 whyHead (head.Value h c) = BytesRunOut
 whyHead (head.Refused e) = e
 
--- only the place behind an item
-unfoldable pub endOf : {A : Type 0} → Res A → Res (Unit {0})
-endOf (ok a at) = ok tt at
-endOf (no n) = no n
-
-abbrev pub resEnd : ReadEnd → Res (Unit {0})
-resEnd (end.Value c) = ok tt (c .at)
-resEnd (end.Refused e) = no (numberOf e)
+abbrev pub resOfEnd : ReadEnd → Res (Unit {0})
+resOfEnd (end.Value c) = ok tt (c .at)
+resOfEnd (end.Refused e) = no (numberOf e)
 
 abbrev pub whyEnd : ReadEnd → Refusal
 whyEnd (end.Value c) = BytesRunOut
 whyEnd (end.Refused e) = e
 
-abbrev pub resServer : ReadServer → Res Server
-resServer (server.Value v c) = ok v (c .at)
-resServer (server.Refused e) = no (numberOf e)
+abbrev pub resOfServer : ReadServer → Res Server
+resOfServer (server.Value v c) = ok v (c .at)
+resOfServer (server.Refused e) = no (numberOf e)
 
 abbrev pub whyServer : ReadServer → Refusal
 whyServer (server.Value v c) = BytesRunOut

@@ -3,8 +3,9 @@ use base::Refusal;
 use xdr::Cursor;
 use xdr::ReadPart;
 ghost use mathlib.Core.Path.{_≡_};
+ghost use Rattle.xdr.specs.Res.{endOf};
 ghost use Rattle.server.specs.Servers.{handlesAt};
-ghost use Rattle.server.specs.Answers.{resEnd, endOf, whyEnd};
+ghost use Rattle.server.specs.Answers.{resOfEnd, whyEnd};
 
 // The place behind what was read.
 pub enum ReadEnd {
@@ -14,7 +15,7 @@ pub enum ReadEnd {
 
 // Past n filehandles.
 pub fn skip_handles(s: &[u8], c: Cursor, n: u32) -> ReadEnd
-    ensures { λ r. ⌜ resEnd r ≡ endOf (handlesAt n (now (s .entry)) (c .at)) ⌝ }
+    ensures { λ r. ⌜ resOfEnd r ≡ endOf (handlesAt n (now (s .entry)) (c .at)) ⌝ }
 {
     let mut d = c;
     let mut left = n;

@@ -5,7 +5,7 @@ use xdr::ReadPart;
 use xdr::ReadU32;
 ghost use mathlib.Core.Path.{_≡_};
 ghost use Rattle.server.specs.Servers.{headAt};
-ghost use Rattle.server.specs.Answers.{resHead, whyHead};
+ghost use Rattle.server.specs.Answers.{resOfHead, whyHead};
 
 // Device id and stateid by their places.
 pub struct ServerHead {
@@ -21,7 +21,7 @@ pub enum ReadHead {
 }
 
 pub(crate) fn read_head(s: &[u8], c: Cursor) -> ReadHead
-    ensures { λ r. ⌜ resHead r ≡ headAt (now (s .entry)) (c .at) ⌝ }
+    ensures { λ r. ⌜ resOfHead r ≡ headAt (now (s .entry)) (c .at) ⌝ }
 {
     let d = xdr::read_bytes(s, c, 16);
     let ReadPart::Value(device, c1) = d else {

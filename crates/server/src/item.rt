@@ -11,7 +11,7 @@ use xdr::Part;
 use xdr::ReadPart;
 ghost use mathlib.Core.Path.{_≡_};
 ghost use Rattle.server.specs.Servers.{serverAt};
-ghost use Rattle.server.specs.Answers.{resServer, whyServer};
+ghost use Rattle.server.specs.Answers.{resOfServer, whyServer};
 
 // Device id, stateid and the first filehandle's length by their places.
 pub struct Server {
@@ -30,7 +30,7 @@ pub enum ReadServer {
 }
 
 pub fn read_server(s: &[u8], c: Cursor) -> ReadServer
-    ensures { λ r. ⌜ resServer r ≡ serverAt (now (s .entry)) (c .at) ⌝ }
+    ensures { λ r. ⌜ resOfServer r ≡ serverAt (now (s .entry)) (c .at) ⌝ }
 {
     let h = read_head(s, c);
     let ReadHead::Value(head, c1) = h else {

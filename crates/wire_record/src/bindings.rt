@@ -7,7 +7,7 @@ use crate::layouts::PartRecord;
 use crate::layouts::part_record;
 use binding::Binding;
 ghost use mathlib.Core.Path.{_≡_};
-ghost use Rattle.binding.specs.Answers.{bindingAnswer};
+ghost use Rattle.binding.specs.Answers.{answerOfBinding};
 ghost use Rattle.wire_record.specs.Bindings.{bindResult};
 
 // Places in the layout body. Tightly coupled, user and group are not used and 0; else the stateid is.
@@ -23,7 +23,7 @@ pub struct BindResult {
 }
 
 pub fn bind_result(b: Binding) -> BindResult
-    ensures { λ r. ⌜ r ≡ bindResult (bindingAnswer b) ⌝ }
+    ensures { λ r. ⌜ r ≡ bindResult (answerOfBinding b) ⌝ }
 {
     match b {
         Binding::Refused(e) => BindResult {

@@ -8,7 +8,7 @@ use netaddr::Address;
 use netaddr::NetidClass;
 ghost use mathlib.Core.Path.{_≡_};
 ghost use mathlib.Core.List.{map};
-ghost use Rattle.device.specs.Answers.{deviceAnswer};
+ghost use Rattle.device.specs.Answers.{answerOfDevice};
 ghost use Rattle.wire_record.specs.Devices.{addressRecord, classNumber, deviceResult, tightNumber, versionRecord};
 
 // The class of the netid is 0 for other, 1 tcp, 2 tcp6, 3 udp, 4 udp6, 5 rdma, 6 rdma6.
@@ -124,7 +124,7 @@ fn version_records(items: [Version; 8]) -> [VersionRecord; 8]
 }
 
 pub fn device_result(d: DeviceRead) -> DeviceResult
-    ensures { λ r. ⌜ r ≡ deviceResult (deviceAnswer d) ⌝ }
+    ensures { λ r. ⌜ r ≡ deviceResult (answerOfDevice d) ⌝ }
 {
     let a = d.answer;
     match a {

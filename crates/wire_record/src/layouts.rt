@@ -6,8 +6,8 @@ use layout4::Layout4Answer;
 use layout4::Layout4Read;
 use xdr::Part;
 ghost use mathlib.Core.Path.{_≡_};
-ghost use Rattle.layout.specs.Answers.{layoutAnswer};
-ghost use Rattle.layout4.specs.Answers.{layout4Answer};
+ghost use Rattle.layout.specs.Answers.{answerOfLayout};
+ghost use Rattle.layout4.specs.Answers.{answerOfLayout4};
 ghost use Rattle.wire_record.specs.Layouts.{layout4Result, layoutResult, partRecord, summaryRecord};
 
 #[repr(C)]
@@ -77,7 +77,7 @@ fn summary_record(s: Summary) -> SummaryRecord
 }
 
 pub fn layout_result(l: LayoutRead) -> LayoutResult
-    ensures { λ r. ⌜ r ≡ layoutResult (layoutAnswer (l .answer) (l .starts)) ⌝ }
+    ensures { λ r. ⌜ r ≡ layoutResult (answerOfLayout (l .answer) (l .starts)) ⌝ }
 {
     let a = l.answer;
     match a {
@@ -99,7 +99,7 @@ pub fn layout_result(l: LayoutRead) -> LayoutResult
 }
 
 pub fn layout4_result(l: Layout4Read) -> Layout4Result
-    ensures { λ r. ⌜ r ≡ layout4Result (layout4Answer (l .answer) (l .starts)) ⌝ }
+    ensures { λ r. ⌜ r ≡ layout4Result (answerOfLayout4 (l .answer) (l .starts)) ⌝ }
 {
     let a = l.answer;
     match a {

@@ -3,7 +3,7 @@ use report::ReportAnswer;
 use report::ReportHead;
 use report::ReportsRead;
 ghost use mathlib.Core.Path.{_≡_};
-ghost use Rattle.report.specs.Answers.{answerCount};
+ghost use Rattle.report.specs.Answers.{answerOfCount};
 ghost use Rattle.wire_record.specs.Reports.{numberOfCount, refusalIn};
 
 // The first error of each report stands at its place in errors_at.
@@ -17,8 +17,8 @@ pub struct ReportsResult {
 
 pub fn reports_result(x: ReportsRead) -> ReportsResult
     ensures { λ r. ⌜ r ≡ record {
-      refusal = refusalIn (answerCount (x .answer));
-      count = numberOfCount (answerCount (x .answer));
+      refusal = refusalIn (answerOfCount (x .answer));
+      count = numberOfCount (answerOfCount (x .answer));
       heads = x .heads;
       «errors_at» = x .«errors_at»;
     } ⌝ }

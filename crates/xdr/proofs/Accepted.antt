@@ -1,14 +1,16 @@
 -- What holds of items that were read: the items before them, the tests that they passed, their limits and where they end.
 use Prim.Native.Nat.{ℕ, zero, suc, _+_, _≤_}
 use mathlib.Core.Path.{_≡_, refl, sym, ap, _∙_}
-use mathlib.Core.Bool.{Bool, true, false, _&&_, false≢true}
+use mathlib.Core.Bool.{Bool, true, false}
 use mathlib.Core.List.{List}
 use native.Mathlib.Omega.{arith}
-use borrow.Author.Tests.{leb-true}
+use borrow.Author.Tests.{eqb-true, leb-true}
+use lib.Dec.{eqb}
 use lib.ListN.{length}
-use Rattle.base.specs.Answer.{pick}
+use Rattle.base.specs.Answer.{Answer, accepted, refused, pick}
+use Rattle.base.proofs.AnswerLaws.{both, never-accepted, pick-accepted, same-answer}
 use Rattle.numbers.specs.Numbers.{bytesFrom, beValue}
-use Rattle.xdr.specs.Res.{Res, ok, no, then, manyAt}
+use Rattle.xdr.specs.Res.{Res, ok, no, then, manyAt, whole, asItem}
 use Rattle.xdr.specs.Items.{allZero, bytesAt, countAt, numAt, opaqueAt, padding}
 use Rattle.xdr.specs.declared.Part.{Part}
 
@@ -43,9 +45,20 @@ unfolding pick
 passed true x n a p e = record { test = refl; chosen = e }
 passed false x n a p e = never n a p e
 
-pub both : (a b : Bool) → (a && b) ≡ true → (a ≡ true) × (b ≡ true)
-both true b h = (refl, h)
-both false b h = absurd (false≢true h)
+-- what was read of an accepted body ends with it
+pub whole-read : {A : Type 0} (s : List ℕ) (x : Res A) (a : A) → whole s x ≡ accepted a → x ≡ ok a (length s)
+unfolding whole
+whole-read s (ok b p) a h =
+    let t = pick-accepted (eqb p (length s)) (accepted b) 2 a h in
+    let e : p ≡ length s = eqb-true p (length s) (t .0) in
+    rw (e, same-answer (t .1))
+whole-read s (no n) a h = never-accepted n a h
+
+-- a judgement that was passed
+pub item-accepted : {A : Type 0} (x : Answer A) (at : ℕ) (a : A) (p : ℕ) → asItem x at ≡ ok a p → (x ≡ accepted a) × (at ≡ p)
+unfolding asItem
+item-accepted (accepted b) at a p e = (ap accepted (same-value e), same-place e)
+item-accepted (refused n) at a p e = never n a p e
 
 pub record Number (k : ℕ) (s : List ℕ) (at n p : ℕ) : Type 0 where
   pub value : n ≡ beValue (bytesFrom k s at)
@@ -63,6 +76,7 @@ number-read k s at n p h =
 pub record Count (lo hi : ℕ) (s : List ℕ) (at n p : ℕ) : Type 0 where
   pub low : lo ≤ n
   pub high : n ≤ hi
+  pub read : numAt 4 s at ≡ ok n p
   pub number : Number 4 s at n p
 
 pub count-read : (lo hi : ℕ) (s : List ℕ) (at n p : ℕ) → countAt lo hi s at ≡ ok n p → Count lo hi s at n p
@@ -74,7 +88,8 @@ count-read lo hi s at n p h =
     let e : r .item ≡ n = same-value (t .chosen) in
     let l : lo ≤ r .item = leb-true _ _ (b .0) in
     let u : r .item ≤ hi = leb-true _ _ (b .1) in
-    record { low = omega arith; high = omega arith; number = number-read 4 s at n p (r .first ∙ t .chosen) }
+    let m = r .first ∙ t .chosen in
+    record { low = omega arith; high = omega arith; read = m; number = number-read 4 s at n p m }
 
 pub record Bytes (n : ℕ) (s : List ℕ) (at : ℕ) (v : Part) (p : ℕ) : Type 0 where
   pub value : v ≡ record { start = at; len = n }

@@ -1,3 +1,4 @@
 pub mod Steps
 pub mod ItemLaws
 pub mod Accepted
+pub mod EndLaws

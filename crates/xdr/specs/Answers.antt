@@ -15,21 +15,21 @@ use Rattle.xdr.specs.declared.item.ReadBool.the-variants as bool
 use Rattle.xdr.specs.declared.item.ReadPart.{ReadPart}
 use Rattle.xdr.specs.declared.item.ReadPart.the-variants as part
 
-abbrev pub resU32 : ReadU32 → Res ℕ
-resU32 (u32.Value n c) = ok n (c .at)
-resU32 (u32.Refused e) = no (numberOf e)
+abbrev pub resOfU32 : ReadU32 → Res ℕ
+resOfU32 (u32.Value n c) = ok n (c .at)
+resOfU32 (u32.Refused e) = no (numberOf e)
 
-abbrev pub resU64 : ReadU64 → Res ℕ
-resU64 (u64.Value n c) = ok n (c .at)
-resU64 (u64.Refused e) = no (numberOf e)
+abbrev pub resOfU64 : ReadU64 → Res ℕ
+resOfU64 (u64.Value n c) = ok n (c .at)
+resOfU64 (u64.Refused e) = no (numberOf e)
 
-abbrev pub resBool : ReadBool → Res Bool
-resBool (bool.Value b c) = ok b (c .at)
-resBool (bool.Refused e) = no (numberOf e)
+abbrev pub resOfBool : ReadBool → Res Bool
+resOfBool (bool.Value b c) = ok b (c .at)
+resOfBool (bool.Refused e) = no (numberOf e)
 
-abbrev pub resPart : ReadPart → Res Part
-resPart (part.Value p c) = ok p (c .at)
-resPart (part.Refused e) = no (numberOf e)
+abbrev pub resOfPart : ReadPart → Res Part
+resOfPart (part.Value p c) = ok p (c .at)
+resOfPart (part.Refused e) = no (numberOf e)
 
 -- The refusal in an answer; of an answer with a value, the first of the refusals.
 abbrev pub whyU32 : ReadU32 → Refusal

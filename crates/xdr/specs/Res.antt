@@ -25,6 +25,11 @@ whole s (ok a at) = pick (eqb at (length s)) (accepted a) (refused 2)
 whole s (no n) = refused n
 
 -- a judgement of what was just read, as an item of no bytes: its number refuses, its value goes on from the same place
-unfoldable pub inside : {A : Type 0} → Answer A → ℕ → Res A
-inside (accepted a) at = ok a at
-inside (refused n) at = no n
+unfoldable pub asItem : {A : Type 0} → Answer A → ℕ → Res A
+asItem (accepted a) at = ok a at
+asItem (refused n) at = no n
+
+-- only the place behind an item
+unfoldable pub endOf : {A : Type 0} → Res A → Res (Unit {0})
+endOf (ok a at) = ok tt at
+endOf (no n) = no n

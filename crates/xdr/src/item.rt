@@ -10,7 +10,7 @@ ghost use Prim.Native.Nat.{_+_, _≤_};
 ghost use lib.ListN.{length};
 ghost use Rattle.numbers.specs.Numbers.{bytesFrom};
 ghost use Rattle.xdr.specs.Items.{allZero, boolAt, bytesAt, countAt, opaqueAt};
-ghost use Rattle.xdr.specs.Answers.{resBool, resPart, resU32, whyBool, whyPart};
+ghost use Rattle.xdr.specs.Answers.{resOfBool, resOfPart, resOfU32, whyBool, whyPart};
 
 pub enum ReadBool {
     Value(bool, Cursor),
@@ -23,7 +23,7 @@ pub enum ReadPart {
 }
 
 pub fn read_bool(s: &[u8], c: Cursor) -> ReadBool
-    ensures { λ r. ⌜ resBool r ≡ boolAt (now (s .entry)) (c .at) ⌝ }
+    ensures { λ r. ⌜ resOfBool r ≡ boolAt (now (s .entry)) (c .at) ⌝ }
 {
     let r = read_u32(s, c);
     let ReadU32::Value(n, d) = r else {
@@ -37,7 +37,7 @@ pub fn read_bool(s: &[u8], c: Cursor) -> ReadBool
 
 // A count or a length, from lo to hi.
 pub fn read_count(s: &[u8], c: Cursor, lo: u32, hi: u32) -> ReadU32
-    ensures { λ r. ⌜ resU32 r ≡ countAt lo hi (now (s .entry)) (c .at) ⌝ }
+    ensures { λ r. ⌜ resOfU32 r ≡ countAt lo hi (now (s .entry)) (c .at) ⌝ }
 {
     let r = read_u32(s, c);
     let ReadU32::Value(n, _) = r else {
@@ -68,7 +68,7 @@ fn zeros(s: &[u8], at: usize, n: usize) -> bool
 
 // n bytes and their padding; bytes of a fixed number that is a multiple of 4 have none.
 pub fn read_bytes(s: &[u8], c: Cursor, n: usize) -> ReadPart
-    ensures { λ r. ⌜ resPart r ≡ bytesAt n (now (s .entry)) (c .at) ⌝ }
+    ensures { λ r. ⌜ resOfPart r ≡ bytesAt n (now (s .entry)) (c .at) ⌝ }
 {
     let at = c.at;
     let pad = (4 - n % 4) % 4;
@@ -90,7 +90,7 @@ pub fn read_bytes(s: &[u8], c: Cursor, n: usize) -> ReadPart
 
 // Variable opaque or string data of lo to hi bytes.
 pub fn read_opaque(s: &[u8], c: Cursor, lo: u32, hi: u32) -> ReadPart
-    ensures { λ r. ⌜ resPart r ≡ opaqueAt lo hi (now (s .entry)) (c .at) ⌝ }
+    ensures { λ r. ⌜ resOfPart r ≡ opaqueAt lo hi (now (s .entry)) (c .at) ⌝ }
 {
     let r = read_count(s, c, lo, hi);
     let ReadU32::Value(n, d) = r else {

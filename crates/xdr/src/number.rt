@@ -3,7 +3,7 @@ use crate::Cursor;
 use base::Refusal;
 ghost use mathlib.Core.Path.{_≡_};
 ghost use Rattle.xdr.specs.Items.{numAt};
-ghost use Rattle.xdr.specs.Answers.{resU32, resU64, whyU32, whyU64};
+ghost use Rattle.xdr.specs.Answers.{resOfU32, resOfU64, whyU32, whyU64};
 
 pub enum ReadU32 {
     Value(u32, Cursor),
@@ -16,7 +16,7 @@ pub enum ReadU64 {
 }
 
 pub fn read_u32(s: &[u8], c: Cursor) -> ReadU32
-    ensures { λ r. ⌜ resU32 r ≡ numAt 4 (now (s .entry)) (c .at) ⌝ }
+    ensures { λ r. ⌜ resOfU32 r ≡ numAt 4 (now (s .entry)) (c .at) ⌝ }
 {
     let at = c.at;
     if s.len() < at {
@@ -29,7 +29,7 @@ pub fn read_u32(s: &[u8], c: Cursor) -> ReadU32
 }
 
 pub fn read_u64(s: &[u8], c: Cursor) -> ReadU64
-    ensures { λ r. ⌜ resU64 r ≡ numAt 8 (now (s .entry)) (c .at) ⌝ }
+    ensures { λ r. ⌜ resOfU64 r ≡ numAt 8 (now (s .entry)) (c .at) ⌝ }
 {
     let at = c.at;
     if s.len() < at {

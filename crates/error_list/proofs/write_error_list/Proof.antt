@@ -48,8 +48,8 @@ use Rattle.base.specs.Answer.{Answer}
 use Rattle.report.specs.declared.ReportHead.{ReportHead}
 use Rattle.report.proofs.ReportHead as P
 use Rattle.report.proofs.ReportHead.Laws as P′
-use Rattle.report_write.specs.Writing.{after, recordsFrom, reportsWritten}
-use Rattle.report_write.specs.Answers.{answerWritten, lengthOf}
+use Rattle.report_write.specs.Writing.{outputAfter, recordsFrom, reportsWritten}
+use Rattle.report_write.specs.Answers.{answerOfWritten, lengthOf}
 use Rattle.report_write.specs.declared.body.Written.{Written}
 use Rattle.report_write.proofs.body.Written as N
 use Rattle.report_write.proofs.body.Written.Laws as N′
@@ -101,7 +101,7 @@ roomy-zeros = subst (Room u8) (sym zeros-long) (lit< tt, lit< tt)
 
 -- what an answer a says of the result, and of the output's last list
 abbrev Wrote : List ℕ → Answer (List ℕ) → Written → List ℕ → Type 0
-Wrote l a r zs = (answerWritten r ≡ lengthOf a) × (zs ≡ after l a)
+Wrote l a r zs = (answerOfWritten r ≡ lengthOf a) × (zs ≡ outputAfter l a)
 
 module _ {M : Type 1} (𝓤 : URA M) (H : Heap 𝓤) (A : Atoms 𝓤) (run-mem : Memory → SProp 𝓤) (run : Routine → Fun 𝓤) where
   -- the contracts that the proof cites

@@ -5,7 +5,7 @@ use Rattle.device.proofs.AcceptedDevice.{versions-read}
 use Rattle.device.specs.Answers.{deviceOf, whyDevice}
 use Rattle.device.specs.declared.body.DeviceAnswer.{DeviceAnswer}
 use Rattle.layout.proofs.LayoutLaws.{accepted-limits}
-use Rattle.layout.specs.Answers.{layoutAnswer, whyLayout}
+use Rattle.layout.specs.Answers.{answerOfLayout, whyLayout}
 use Rattle.layout.specs.declared.body.LayoutAnswer.{LayoutAnswer}
 use Rattle.xdr.proofs.Steps.{came, handed}
 use borrow.Author.Needs.{needs}
@@ -30,7 +30,7 @@ why-layout-requires c κs = search needs
 
 returns : tie.Need-returns
 unfolding boundTo given
-returns c = rw (handed (λ (x : LayoutAnswer). layoutAnswer x (c .before .before .before .read-layout .result .starts)) whyLayout refused (c .before .before .before .read-layout .ensures .0) (c .before .enum-told .given .1) (c .why-layout .ensures) refl)
+returns c = rw (handed (λ (x : LayoutAnswer). answerOfLayout x (c .before .before .before .read-layout .result .starts)) whyLayout refused (c .before .before .before .read-layout .ensures .0) (c .before .enum-told .given .1) (c .why-layout .ensures) refl)
 
 read-device-requires : tie.Need-read-device-requires
 read-device-requires c κs = search needs
@@ -46,25 +46,25 @@ why-device-requires c κs = search needs
 
 returns-2 : tie.Need-returns-2
 unfolding boundTo given
-returns-2 c = rw (came (λ (x : LayoutAnswer). layoutAnswer x (c .before .before .before .before .before .before .before .read-layout .result .starts)) (c .before .before .before .before .before .before .before .read-layout .ensures .0) (c .before .before .before .before .before .a .given .1), handed (λ (x : DeviceAnswer). deviceOf x (c .before .before .before .read-device .result .addresses) (c .before .before .before .read-device .result .versions)) whyDevice refused (c .before .before .before .read-device .ensures .0) (c .before .enum-told2 .given .1) (c .why-device .ensures) refl)
+returns-2 c = rw (came (λ (x : LayoutAnswer). answerOfLayout x (c .before .before .before .before .before .before .before .read-layout .result .starts)) (c .before .before .before .before .before .before .before .read-layout .ensures .0) (c .before .before .before .before .before .a .given .1), handed (λ (x : DeviceAnswer). deviceOf x (c .before .before .before .read-device .result .addresses) (c .before .before .before .read-device .result .versions)) whyDevice refused (c .before .before .before .read-device .ensures .0) (c .before .enum-told2 .given .1) (c .why-device .ensures) refl)
 
 returns-3 : tie.Need-returns-3
 unfolding boundTo given must pick
-returns-3 c = rw (came (λ (x : LayoutAnswer). layoutAnswer x (c .before .before .before .before .before .before .before .before .before .read-layout .result .starts)) (c .before .before .before .before .before .before .before .before .before .read-layout .ensures .0) (c .before .before .before .before .before .before .before .a .given .1), came (λ (x : DeviceAnswer). deviceOf x (c .before .before .before .before .before .read-device .result .addresses) (c .before .before .before .before .before .read-device .result .versions)) (c .before .before .before .before .before .read-device .ensures .0) (c .before .before .before .b .given .1), le-ltb _ _ (c .if1 .taken))
+returns-3 c = rw (came (λ (x : LayoutAnswer). answerOfLayout x (c .before .before .before .before .before .before .before .before .before .read-layout .result .starts)) (c .before .before .before .before .before .before .before .before .before .read-layout .ensures .0) (c .before .before .before .before .before .before .before .a .given .1), came (λ (x : DeviceAnswer). deviceOf x (c .before .before .before .before .before .read-device .result .addresses) (c .before .before .before .before .before .read-device .result .versions)) (c .before .before .before .before .before .read-device .ensures .0) (c .before .before .before .b .given .1), le-ltb _ _ (c .if1 .taken))
 
 returns-4 : tie.Need-returns-4
 unfolding boundTo given must pick
-returns-4 c = rw (came (λ (x : LayoutAnswer). layoutAnswer x (c .before .before .before .before .before .before .before .before .before .before .before .read-layout .result .starts)) (c .before .before .before .before .before .before .before .before .before .before .before .read-layout .ensures .0) (c .before .before .before .before .before .before .before .before .before .a .given .1), came (λ (x : DeviceAnswer). deviceOf x (c .before .before .before .before .before .before .before .read-device .result .addresses) (c .before .before .before .before .before .before .before .read-device .result .versions)) (c .before .before .before .before .before .before .before .read-device .ensures .0) (c .before .before .before .before .before .b .given .1), lt-ltb _ _ (c .before .before .if1 .left), le-ltb _ _ (c .if2 .taken))
+returns-4 c = rw (came (λ (x : LayoutAnswer). answerOfLayout x (c .before .before .before .before .before .before .before .before .before .before .before .read-layout .result .starts)) (c .before .before .before .before .before .before .before .before .before .before .before .read-layout .ensures .0) (c .before .before .before .before .before .before .before .before .before .a .given .1), came (λ (x : DeviceAnswer). deviceOf x (c .before .before .before .before .before .before .before .read-device .result .addresses) (c .before .before .before .before .before .before .before .read-device .result .versions)) (c .before .before .before .before .before .before .before .read-device .ensures .0) (c .before .before .before .before .before .b .given .1), lt-ltb _ _ (c .before .before .if1 .left), le-ltb _ _ (c .if2 .taken))
 
 returns-5 : tie.Need-returns-5
 unfolding boundTo given must pick
-returns-5 c = rw (came (λ (x : LayoutAnswer). layoutAnswer x (c .before .before .before .before .before .before .before .before .before .before .before .before .read-layout .result .starts)) (c .before .before .before .before .before .before .before .before .before .before .before .before .read-layout .ensures .0) (c .before .before .before .before .before .before .before .before .before .before .a .given .1), came (λ (x : DeviceAnswer). deviceOf x (c .before .before .before .before .before .before .before .before .read-device .result .addresses) (c .before .before .before .before .before .before .before .before .read-device .result .versions)) (c .before .before .before .before .before .before .before .before .read-device .ensures .0) (c .before .before .before .before .before .before .b .given .1), lt-ltb _ _ (c .before .before .before .if1 .left), lt-ltb _ _ (c .before .if2 .left), lt-leb _ _ (c .if3 .taken))
+returns-5 c = rw (came (λ (x : LayoutAnswer). answerOfLayout x (c .before .before .before .before .before .before .before .before .before .before .before .before .read-layout .result .starts)) (c .before .before .before .before .before .before .before .before .before .before .before .before .read-layout .ensures .0) (c .before .before .before .before .before .before .before .before .before .before .a .given .1), came (λ (x : DeviceAnswer). deviceOf x (c .before .before .before .before .before .before .before .before .read-device .result .addresses) (c .before .before .before .before .before .before .before .before .read-device .result .versions)) (c .before .before .before .before .before .before .before .before .read-device .ensures .0) (c .before .before .before .before .before .before .b .given .1), lt-ltb _ _ (c .before .before .before .if1 .left), lt-ltb _ _ (c .before .if2 .left), lt-leb _ _ (c .if3 .taken))
 
 mul-i : tie.Need-mul-i
-mul-i c = let k = accepted-limits (now (c .before .before .before .before .before .before .before .before .before .before .before .before .before .before .before .args .layout)) _ (came (λ (x : LayoutAnswer). layoutAnswer x (c .before .before .before .before .before .before .before .before .before .before .before .before .read-layout .result .starts)) (c .before .before .before .before .before .before .before .before .before .before .before .before .read-layout .ensures .0) (c .before .before .before .before .before .before .before .before .before .before .a .given .1)) in omega (arith, k .mirrors-few)
+mul-i c = let k = accepted-limits (now (c .before .before .before .before .before .before .before .before .before .before .before .before .before .before .before .args .layout)) _ (came (λ (x : LayoutAnswer). answerOfLayout x (c .before .before .before .before .before .before .before .before .before .before .before .before .read-layout .result .starts)) (c .before .before .before .before .before .before .before .before .before .before .before .before .read-layout .ensures .0) (c .before .before .before .before .before .before .before .before .before .before .a .given .1)) in omega (arith, k .mirrors-few)
 
 add-i : tie.Need-add-i
-add-i c = let k = accepted-limits (now (c .before .before .before .before .before .before .before .before .before .before .before .before .before .before .before .args .layout)) _ (came (λ (x : LayoutAnswer). layoutAnswer x (c .before .before .before .before .before .before .before .before .before .before .before .before .read-layout .result .starts)) (c .before .before .before .before .before .before .before .before .before .before .before .before .read-layout .ensures .0) (c .before .before .before .before .before .before .before .before .before .before .a .given .1)) in omega (arith, k .mirrors-few, k .servers-few)
+add-i c = let k = accepted-limits (now (c .before .before .before .before .before .before .before .before .before .before .before .before .before .before .before .args .layout)) _ (came (λ (x : LayoutAnswer). answerOfLayout x (c .before .before .before .before .before .before .before .before .before .before .before .before .read-layout .result .starts)) (c .before .before .before .before .before .before .before .before .before .before .before .before .read-layout .ensures .0) (c .before .before .before .before .before .before .before .before .before .before .a .given .1)) in omega (arith, k .mirrors-few, k .servers-few)
 
 cast-i : tie.Need-cast-i
 cast-i c = search needs
@@ -73,7 +73,7 @@ mul-wide : tie.Need-mul-wide
 mul-wide c = search needs
 
 element-copy-out-wide : tie.Need-element-copy-out-wide
-element-copy-out-wide c = let k = accepted-limits (now (c .before .before .before .before .before .before .before .before .before .before .before .before .before .before .before .args .layout)) _ (came (λ (x : LayoutAnswer). layoutAnswer x (c .before .before .before .before .before .before .before .before .before .before .before .before .read-layout .result .starts)) (c .before .before .before .before .before .before .before .before .before .before .before .before .read-layout .ensures .0) (c .before .before .before .before .before .before .before .before .before .before .a .given .1)) in omega (arith, k .mirrors-few, k .servers-few)
+element-copy-out-wide c = let k = accepted-limits (now (c .before .before .before .before .before .before .before .before .before .before .before .before .before .before .before .args .layout)) _ (came (λ (x : LayoutAnswer). answerOfLayout x (c .before .before .before .before .before .before .before .before .before .before .before .before .read-layout .result .starts)) (c .before .before .before .before .before .before .before .before .before .before .before .before .read-layout .ensures .0) (c .before .before .before .before .before .before .before .before .before .before .a .given .1)) in omega (arith, k .mirrors-few, k .servers-few)
 
 wide-requires : tie.Need-wide-requires
 wide-requires c κs = search needs
@@ -83,7 +83,7 @@ bind-server-requires c κs = let v = versions-read (now (c .before .before .befo
 
 returns-6 : tie.Need-returns-6
 unfolding boundTo given must pick
-returns-6 c = rw (came (λ (x : LayoutAnswer). layoutAnswer x (c .before .before .before .before .before .before .before .before .before .before .before .before .before .before .before .before .read-layout .result .starts)) (c .before .before .before .before .before .before .before .before .before .before .before .before .before .before .before .before .read-layout .ensures .0) (c .before .before .before .before .before .before .before .before .before .before .before .before .before .before .a .given .1), came (λ (x : DeviceAnswer). deviceOf x (c .before .before .before .before .before .before .before .before .before .before .before .before .read-device .result .addresses) (c .before .before .before .before .before .before .before .before .before .before .before .before .read-device .result .versions)) (c .before .before .before .before .before .before .before .before .before .before .before .before .read-device .ensures .0) (c .before .before .before .before .before .before .before .before .before .before .b .given .1), lt-ltb _ _ (c .before .before .before .before .before .before .before .if1 .left), lt-ltb _ _ (c .before .before .before .before .before .if2 .left), le-leb _ _ (c .before .before .before .before .if3 .left), ← c .before .before .wide .ensures) (c .bind-server .ensures)
+returns-6 c = rw (came (λ (x : LayoutAnswer). answerOfLayout x (c .before .before .before .before .before .before .before .before .before .before .before .before .before .before .before .before .read-layout .result .starts)) (c .before .before .before .before .before .before .before .before .before .before .before .before .before .before .before .before .read-layout .ensures .0) (c .before .before .before .before .before .before .before .before .before .before .before .before .before .before .a .given .1), came (λ (x : DeviceAnswer). deviceOf x (c .before .before .before .before .before .before .before .before .before .before .before .before .read-device .result .addresses) (c .before .before .before .before .before .before .before .before .before .before .before .before .read-device .result .versions)) (c .before .before .before .before .before .before .before .before .before .before .before .before .read-device .ensures .0) (c .before .before .before .before .before .before .before .before .before .before .b .given .1), lt-ltb _ _ (c .before .before .before .before .before .before .before .if1 .left), lt-ltb _ _ (c .before .before .before .before .before .if2 .left), le-leb _ _ (c .before .before .before .before .if3 .left), ← c .before .before .wide .ensures) (c .bind-server .ensures)
 
 pub bind-spec : {M : Type 1} → statement M
 bind-spec =

@@ -1,7 +1,7 @@
 -- `binding::choice::read_handle` meets its contract: past the others, then the filehandle.
 use Rattle.binding.specs.Bindings.{handleAt}
-use Rattle.server.proofs.HandleLaws.{end-refused, end-then}
-use Rattle.server.specs.Answers.{resEnd, whyEnd}
+use Rattle.xdr.proofs.EndLaws.{end-refused, end-then}
+use Rattle.server.specs.Answers.{resOfEnd, whyEnd}
 use Rattle.xdr.proofs.Steps.{came, handed}
 use Rattle.xdr.specs.Res.{no}
 use borrow.Author.Needs.{needs}
@@ -23,14 +23,14 @@ why-end-requires c κs = search needs
 
 returns : tie.Need-returns
 unfolding handleAt
-returns c = sym (end-refused _ _ _ (handed resEnd whyEnd no (c .before .before .before .skip-handles .ensures) (c .before .enum-told .given .1) (c .why-end .ensures) refl))
+returns c = sym (end-refused _ _ _ (handed resOfEnd whyEnd no (c .before .before .before .skip-handles .ensures) (c .before .enum-told .given .1) (c .why-end .ensures) refl))
 
 read-opaque-requires : tie.Need-read-opaque-requires
 read-opaque-requires c κs = search needs
 
 returns-2 : tie.Need-returns-2
 unfolding handleAt
-returns-2 c = c .read-opaque .ensures ∙ sym (end-then _ _ _ (came resEnd (c .before .before .before .before .skip-handles .ensures) (c .before .before .p .given .1)))
+returns-2 c = c .read-opaque .ensures ∙ sym (end-then _ _ _ (came resOfEnd (c .before .before .before .before .skip-handles .ensures) (c .before .before .p .given .1)))
 
 pub read-handle-spec : {M : Type 1} → statement M
 read-handle-spec =

@@ -2,7 +2,7 @@
 use Rattle.base.specs.Answer.{given, pick}
 use Rattle.binding.specs.Bindings.{bound, entryBound, must, valueOf}
 use Rattle.xdr.proofs.Steps.{came, handed}
-use Rattle.xdr.specs.Answers.{resPart, whyPart}
+use Rattle.xdr.specs.Answers.{resOfPart, whyPart}
 use Rattle.xdr.specs.Res.{no}
 use borrow.Author.Needs.{needs}
 use borrow.Author.Tests.{not-false, not-true}
@@ -31,15 +31,15 @@ why-part-requires c κs = search needs
 
 returns-2 : tie.Need-returns-2
 unfolding entryBound must pick given valueOf
-returns-2 c = rw (sym (c .before .before .before .before .before .stateid-fits .ensures) ∙ not-false _ (c .before .before .before .before .if1 .left), handed resPart whyPart no (c .before .before .before .read-handle .ensures) (c .before .enum-told .given .1) (c .why-part .ensures) refl)
+returns-2 c = rw (sym (c .before .before .before .before .before .stateid-fits .ensures) ∙ not-false _ (c .before .before .before .before .if1 .left), handed resOfPart whyPart no (c .before .before .before .read-handle .ensures) (c .before .enum-told .given .1) (c .why-part .ensures) refl)
 
 returns-3 : tie.Need-returns-3
 unfolding entryBound must pick given valueOf bound
-returns-3 c = rw (sym (c .before .before .before .before .before .before .stateid-fits .ensures) ∙ not-false _ (c .before .before .before .before .before .if1 .left), came resPart (c .before .before .before .before .read-handle .ensures) (c .before .before .h .given .1), c .if2 .taken)
+returns-3 c = rw (sym (c .before .before .before .before .before .before .stateid-fits .ensures) ∙ not-false _ (c .before .before .before .before .before .if1 .left), came resOfPart (c .before .before .before .before .read-handle .ensures) (c .before .before .h .given .1), c .if2 .taken)
 
 returns-4 : tie.Need-returns-4
 unfolding entryBound must pick given valueOf bound
-returns-4 c = rw (sym (c .before .before .before .before .before .before .before .before .stateid-fits .ensures) ∙ not-false _ (c .before .before .before .before .before .before .before .if1 .left), came resPart (c .before .before .before .before .before .before .read-handle .ensures) (c .before .before .before .before .h .given .1), c .before .before .if2 .left)
+returns-4 c = rw (sym (c .before .before .before .before .before .before .before .before .stateid-fits .ensures) ∙ not-false _ (c .before .before .before .before .before .before .before .if1 .left), came resOfPart (c .before .before .before .before .before .before .read-handle .ensures) (c .before .before .before .before .h .given .1), c .before .before .if2 .left)
 
 pub bind-entry-spec : {M : Type 1} → statement M
 bind-entry-spec =

@@ -1,10 +1,10 @@
 -- `binding::entry::bind_server` meets its contract: the server, 13, the choice, then the entry.
 use Rattle.base.specs.Answer.{given, pick, refused}
 use Rattle.binding.proofs.BindingLaws.{chosen-below}
-use Rattle.binding.specs.Answers.{choiceAnswer, whyChoice}
+use Rattle.binding.specs.Answers.{answerOfChoice, whyChoice}
 use Rattle.binding.specs.Bindings.{must, serverBound, valueOf}
 use Rattle.server.proofs.ServerLaws.{server-read}
-use Rattle.server.specs.Answers.{resServer, whyServer}
+use Rattle.server.specs.Answers.{resOfServer, whyServer}
 use Rattle.xdr.proofs.Steps.{came, handed}
 use Rattle.xdr.specs.Res.{no}
 use borrow.Author.Needs.{needs}
@@ -29,14 +29,14 @@ why-server-requires c κs = search needs
 
 returns : tie.Need-returns
 unfolding serverBound given valueOf
-returns c = rw (handed resServer whyServer no (c .before .before .before .read-server .ensures) (c .before .enum-told .given .1) (c .why-server .ensures) refl)
+returns c = rw (handed resOfServer whyServer no (c .before .before .before .read-server .ensures) (c .before .enum-told .given .1) (c .why-server .ensures) refl)
 
 server-matches-requires : tie.Need-server-matches-requires
-server-matches-requires c κs = let v = server-read (now (c .before .before .before .before .before .args .s)) (c .before .before .before .before .before .args .start) _ _ (came resServer (c .before .before .before .read-server .ensures) (c .before .r .given .1)) in omega (arith, v .device, v .inside)
+server-matches-requires c κs = let v = server-read (now (c .before .before .before .before .before .args .s)) (c .before .before .before .before .before .args .start) _ _ (came resOfServer (c .before .before .before .read-server .ensures) (c .before .r .given .1)) in omega (arith, v .device, v .inside)
 
 returns-2 : tie.Need-returns-2
 unfolding serverBound given valueOf must pick
-returns-2 c = rw ((came resServer (c .before .before .before .before .before .read-server .ensures) (c .before .before .before .r .given .1)), sym (c .before .server-matches .ensures) ∙ not-true _ (c .if1 .taken))
+returns-2 c = rw ((came resOfServer (c .before .before .before .before .before .read-server .ensures) (c .before .before .before .r .given .1)), sym (c .before .server-matches .ensures) ∙ not-true _ (c .if1 .taken))
 
 choose-requires : tie.Need-choose-requires
 choose-requires c κs = search needs
@@ -52,7 +52,7 @@ why-choice-requires c κs = search needs
 
 returns-3 : tie.Need-returns-3
 unfolding serverBound given valueOf must pick
-returns-3 c = rw ((came resServer (c .before .before .before .before .before .before .before .before .before .read-server .ensures) (c .before .before .before .before .before .before .before .r .given .1)), sym (c .before .before .before .before .before .server-matches .ensures) ∙ not-false _ (c .before .before .before .before .if1 .left), handed choiceAnswer whyChoice refused (c .before .before .before .choose .ensures) (c .before .enum-told2 .given .1) (c .why-choice .ensures) refl)
+returns-3 c = rw ((came resOfServer (c .before .before .before .before .before .before .before .before .before .read-server .ensures) (c .before .before .before .before .before .before .before .r .given .1)), sym (c .before .before .before .before .before .server-matches .ensures) ∙ not-false _ (c .before .before .before .before .if1 .left), handed answerOfChoice whyChoice refused (c .before .before .before .choose .ensures) (c .before .enum-told2 .given .1) (c .why-choice .ensures) refl)
 
 cast-v : tie.Need-cast-v
 cast-v c = search needs
@@ -61,14 +61,14 @@ mul-v : tie.Need-mul-v
 mul-v c = search needs
 
 array-copy-out-v : tie.Need-array-copy-out-v
-array-copy-out-v c = let h = chosen-below (c .before .before .before .before .before .before .before .before .before .before .before .args .set) (c .before .before .before .before .before .before .before .before .before .before .before .args .count) (c .before .before .before .before .before .before .before .before .before .before .before .args .t3) _ (came choiceAnswer (c .before .before .before .choose .ensures) (c .before .e .given .1)) in omega (arith, h, c .before .before .before .before .before .before .before .before .before .before .before .pre)
+array-copy-out-v c = let h = chosen-below (c .before .before .before .before .before .before .before .before .before .before .before .args .set) (c .before .before .before .before .before .before .before .before .before .before .before .args .count) (c .before .before .before .before .before .before .before .before .before .before .before .args .t3) _ (came answerOfChoice (c .before .before .before .choose .ensures) (c .before .e .given .1)) in omega (arith, h, c .before .before .before .before .before .before .before .before .before .before .before .pre)
 
 bind-entry-requires : tie.Need-bind-entry-requires
-bind-entry-requires c κs = let v = server-read (now (c .before .before .before .before .before .before .before .before .before .before .before .before .args .s)) (c .before .before .before .before .before .before .before .before .before .before .before .before .args .start) _ _ (came resServer (c .before .before .before .before .before .before .before .before .before .before .read-server .ensures) (c .before .before .before .before .before .before .before .before .r .given .1)) in omega (arith, v .stateid, v .inside)
+bind-entry-requires c κs = let v = server-read (now (c .before .before .before .before .before .before .before .before .before .before .before .before .args .s)) (c .before .before .before .before .before .before .before .before .before .before .before .before .args .start) _ _ (came resOfServer (c .before .before .before .before .before .before .before .before .before .before .read-server .ensures) (c .before .before .before .before .before .before .before .before .r .given .1)) in omega (arith, v .stateid, v .inside)
 
 returns-4 : tie.Need-returns-4
 unfolding serverBound given valueOf must pick
-returns-4 c = rw ((came resServer (c .before .before .before .before .before .before .before .before .before .before .before .read-server .ensures) (c .before .before .before .before .before .before .before .before .before .r .given .1)), sym (c .before .before .before .before .before .before .before .server-matches .ensures) ∙ not-false _ (c .before .before .before .before .before .before .if1 .left), came choiceAnswer (c .before .before .before .before .before .choose .ensures) (c .before .before .before .e .given .1)) (c .bind-entry .ensures)
+returns-4 c = rw ((came resOfServer (c .before .before .before .before .before .before .before .before .before .before .before .read-server .ensures) (c .before .before .before .before .before .before .before .before .before .r .given .1)), sym (c .before .before .before .before .before .before .before .server-matches .ensures) ∙ not-false _ (c .before .before .before .before .before .before .if1 .left), came answerOfChoice (c .before .before .before .before .before .choose .ensures) (c .before .before .before .e .given .1)) (c .bind-entry .ensures)
 
 pub bind-server-spec : {M : Type 1} → statement M
 bind-server-spec =

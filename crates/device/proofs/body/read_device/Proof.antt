@@ -1,7 +1,7 @@
 -- `device::body::read_device` meets its contract: the length, the addresses, the versions, then the end. `k1` is the place after the addresses,
 -- `k2` the one after the versions.
 use Rattle.device.proofs.DeviceLaws.{addresses-refused, body-accepted, body-too-long, bytes-left-over, versions-refused}
-use Rattle.device.specs.Answers.{resList}
+use Rattle.device.specs.Answers.{resOfList}
 use Rattle.xdr.proofs.Steps.{came, handed}
 use Rattle.xdr.specs.Answers.{whyU32}
 use Rattle.xdr.specs.Res.{no}
@@ -34,7 +34,7 @@ refuse-requires-2 c κs = search needs
 returns-2 : tie.Need-returns-2
 returns-2 c =
     let r = c .before .before .before .before .read-addresses in
-    let g = handed (resList (r .result .places)) whyU32 no (r .ensures) (c .before .before .enum-told .given .1) (c .before .why-u32 .ensures) refl in
+    let g = handed (resOfList (r .result .places)) whyU32 no (r .ensures) (c .before .before .enum-told .given .1) (c .before .why-u32 .ensures) refl in
     rw (addresses-refused _ (c .before .before .before .before .before .if1 .left) _ g) (c .refuse2 .ensures)
 
 read-versions-requires : tie.Need-read-versions-requires
@@ -55,9 +55,9 @@ refuse-requires-3 c κs = search needs
 returns-3 : tie.Need-returns-3
 returns-3 c =
     let k1 = c .before .before .before .before .before in
-    let h = came (resList (k1 .before .before .before .read-addresses .result .places)) (k1 .before .before .before .read-addresses .ensures) (k1 .before .first .given .1) in
+    let h = came (resOfList (k1 .before .before .before .read-addresses .result .places)) (k1 .before .before .before .read-addresses .ensures) (k1 .before .first .given .1) in
     let r = c .before .before .before .before .read-versions in
-    let g = handed (resList (r .result .places)) whyU32 no (r .ensures) (c .before .before .enum-told2 .given .1) (c .before .why-u322 .ensures) refl in
+    let g = handed (resOfList (r .result .places)) whyU32 no (r .ensures) (c .before .before .enum-told2 .given .1) (c .before .why-u322 .ensures) refl in
     rw (versions-refused _ (k1 .before .before .before .before .if1 .left) _ _ _ h g) (c .refuse3 .ensures)
 
 refuse-requires-4 : tie.Need-refuse-requires-4
@@ -67,16 +67,16 @@ returns-4 : tie.Need-returns-4
 returns-4 c =
     let k2 = c .before .before .before in
     let k1 = k2 .before .before .before .before in
-    let h = came (resList (k1 .before .before .before .read-addresses .result .places)) (k1 .before .before .before .read-addresses .ensures) (k1 .before .first .given .1) in
-    let g = came (resList (k2 .before .before .before .read-versions .result .places)) (k2 .before .before .before .read-versions .ensures) (k2 .before .second .given .1) in
+    let h = came (resOfList (k1 .before .before .before .read-addresses .result .places)) (k1 .before .before .before .read-addresses .ensures) (k1 .before .first .given .1) in
+    let g = came (resOfList (k2 .before .before .before .read-versions .result .places)) (k2 .before .before .before .read-versions .ensures) (k2 .before .second .given .1) in
     rw (bytes-left-over _ (k1 .before .before .before .before .if1 .left) _ _ _ _ h g (c .before .if2 .taken)) (c .refuse4 .ensures)
 
 returns-5 : tie.Need-returns-5
 returns-5 c =
     let k2 = c .before .before .before .before in
     let k1 = k2 .before .before .before .before in
-    let h = came (resList (k1 .before .before .before .read-addresses .result .places)) (k1 .before .before .before .read-addresses .ensures) (k1 .before .first .given .1) in
-    let g = came (resList (k2 .before .before .before .read-versions .result .places)) (k2 .before .before .before .read-versions .ensures) (k2 .before .second .given .1) in
+    let h = came (resOfList (k1 .before .before .before .read-addresses .result .places)) (k1 .before .before .before .read-addresses .ensures) (k1 .before .first .given .1) in
+    let g = came (resOfList (k2 .before .before .before .read-versions .result .places)) (k2 .before .before .before .read-versions .ensures) (k2 .before .second .given .1) in
     rw (body-accepted _ (k1 .before .before .before .before .if1 .left) _ _ _ _ h g (c .before .before .if2 .left)) (refl, refl, refl)
 
 pub read-device-spec : {M : Type 1} → statement M

@@ -2,7 +2,7 @@
 use Rattle.base.specs.Answer.{pick}
 use Rattle.device_version.specs.Versions.{judged, versionAt}
 use Rattle.xdr.proofs.Steps.{came, handed}
-use Rattle.xdr.specs.Answers.{resU32, resBool, whyU32, whyBool}
+use Rattle.xdr.specs.Answers.{resOfU32, resOfBool, whyU32, whyBool}
 use Rattle.xdr.specs.Res.{no, then}
 use borrow.Author.Needs.{needs}
 use borrow.Author.Tests.{not-true, not-false}
@@ -24,7 +24,7 @@ why-u32-requires c κs = search needs
 
 returns : tie.Need-returns
 unfolding versionAt then
-returns c = rw (handed resU32 whyU32 no (c .before .before .before .read-u32 .ensures) (c .before .enum-told .given .1) (c .why-u32 .ensures) refl)
+returns c = rw (handed resOfU32 whyU32 no (c .before .before .before .read-u32 .ensures) (c .before .enum-told .given .1) (c .why-u32 .ensures) refl)
 
 read-u32-requires-2 : tie.Need-read-u32-requires-2
 read-u32-requires-2 c κs = search needs
@@ -43,8 +43,8 @@ unfolding versionAt then
 returns-2 c =
     let k1 = c .before .before .before .before in
     rw (
-      came resU32 (k1 .before .before .before .read-u32 .ensures) (k1 .before .r1 .given .1),
-      handed resU32 whyU32 no (c .before .before .before .read-u322 .ensures) (c .before .enum-told2 .given .1) (c .why-u322 .ensures) refl,
+      came resOfU32 (k1 .before .before .before .read-u32 .ensures) (k1 .before .r1 .given .1),
+      handed resOfU32 whyU32 no (c .before .before .before .read-u322 .ensures) (c .before .enum-told2 .given .1) (c .why-u322 .ensures) refl,
     )
 
 read-u32-requires-3 : tie.Need-read-u32-requires-3
@@ -65,9 +65,9 @@ returns-3 c =
     let k2 = c .before .before .before .before in
     let k1 = k2 .before .before .before .before in
     rw (
-      came resU32 (k1 .before .before .before .read-u32 .ensures) (k1 .before .r1 .given .1),
-      came resU32 (k2 .before .before .before .read-u322 .ensures) (k2 .before .r2 .given .1),
-      handed resU32 whyU32 no (c .before .before .before .read-u323 .ensures) (c .before .enum-told3 .given .1) (c .why-u323 .ensures) refl,
+      came resOfU32 (k1 .before .before .before .read-u32 .ensures) (k1 .before .r1 .given .1),
+      came resOfU32 (k2 .before .before .before .read-u322 .ensures) (k2 .before .r2 .given .1),
+      handed resOfU32 whyU32 no (c .before .before .before .read-u323 .ensures) (c .before .enum-told3 .given .1) (c .why-u323 .ensures) refl,
     )
 
 read-u32-requires-4 : tie.Need-read-u32-requires-4
@@ -89,10 +89,10 @@ returns-4 c =
     let k2 = k3 .before .before .before .before in
     let k1 = k2 .before .before .before .before in
     rw (
-      came resU32 (k1 .before .before .before .read-u32 .ensures) (k1 .before .r1 .given .1),
-      came resU32 (k2 .before .before .before .read-u322 .ensures) (k2 .before .r2 .given .1),
-      came resU32 (k3 .before .before .before .read-u323 .ensures) (k3 .before .r3 .given .1),
-      handed resU32 whyU32 no (c .before .before .before .read-u324 .ensures) (c .before .enum-told4 .given .1) (c .why-u324 .ensures) refl,
+      came resOfU32 (k1 .before .before .before .read-u32 .ensures) (k1 .before .r1 .given .1),
+      came resOfU32 (k2 .before .before .before .read-u322 .ensures) (k2 .before .r2 .given .1),
+      came resOfU32 (k3 .before .before .before .read-u323 .ensures) (k3 .before .r3 .given .1),
+      handed resOfU32 whyU32 no (c .before .before .before .read-u324 .ensures) (c .before .enum-told4 .given .1) (c .why-u324 .ensures) refl,
     )
 
 read-bool-requires : tie.Need-read-bool-requires
@@ -115,11 +115,11 @@ returns-5 c =
     let k2 = k3 .before .before .before .before in
     let k1 = k2 .before .before .before .before in
     rw (
-      came resU32 (k1 .before .before .before .read-u32 .ensures) (k1 .before .r1 .given .1),
-      came resU32 (k2 .before .before .before .read-u322 .ensures) (k2 .before .r2 .given .1),
-      came resU32 (k3 .before .before .before .read-u323 .ensures) (k3 .before .r3 .given .1),
-      came resU32 (k4 .before .before .before .read-u324 .ensures) (k4 .before .r4 .given .1),
-      handed resBool whyBool no (c .before .before .before .read-bool .ensures) (c .before .enum-told5 .given .1) (c .why-bool .ensures) refl,
+      came resOfU32 (k1 .before .before .before .read-u32 .ensures) (k1 .before .r1 .given .1),
+      came resOfU32 (k2 .before .before .before .read-u322 .ensures) (k2 .before .r2 .given .1),
+      came resOfU32 (k3 .before .before .before .read-u323 .ensures) (k3 .before .r3 .given .1),
+      came resOfU32 (k4 .before .before .before .read-u324 .ensures) (k4 .before .r4 .given .1),
+      handed resOfBool whyBool no (c .before .before .before .read-bool .ensures) (c .before .enum-told5 .given .1) (c .why-bool .ensures) refl,
     )
 
 version-fits-requires : tie.Need-version-fits-requires
@@ -134,11 +134,11 @@ returns-6 c =
     let k2 = k3 .before .before .before .before in
     let k1 = k2 .before .before .before .before in
     rw (
-      came resU32 (k1 .before .before .before .read-u32 .ensures) (k1 .before .r1 .given .1),
-      came resU32 (k2 .before .before .before .read-u322 .ensures) (k2 .before .r2 .given .1),
-      came resU32 (k3 .before .before .before .read-u323 .ensures) (k3 .before .r3 .given .1),
-      came resU32 (k4 .before .before .before .read-u324 .ensures) (k4 .before .r4 .given .1),
-      came resBool (k5 .before .before .before .read-bool .ensures) (k5 .before .r5 .given .1),
+      came resOfU32 (k1 .before .before .before .read-u32 .ensures) (k1 .before .r1 .given .1),
+      came resOfU32 (k2 .before .before .before .read-u322 .ensures) (k2 .before .r2 .given .1),
+      came resOfU32 (k3 .before .before .before .read-u323 .ensures) (k3 .before .r3 .given .1),
+      came resOfU32 (k4 .before .before .before .read-u324 .ensures) (k4 .before .r4 .given .1),
+      came resOfBool (k5 .before .before .before .read-bool .ensures) (k5 .before .r5 .given .1),
       sym (c .before .version-fits .ensures) ∙ not-true _ (c .if1 .taken),
     )
 
@@ -151,11 +151,11 @@ returns-7 c =
     let k2 = k3 .before .before .before .before in
     let k1 = k2 .before .before .before .before in
     rw (
-      came resU32 (k1 .before .before .before .read-u32 .ensures) (k1 .before .r1 .given .1),
-      came resU32 (k2 .before .before .before .read-u322 .ensures) (k2 .before .r2 .given .1),
-      came resU32 (k3 .before .before .before .read-u323 .ensures) (k3 .before .r3 .given .1),
-      came resU32 (k4 .before .before .before .read-u324 .ensures) (k4 .before .r4 .given .1),
-      came resBool (k5 .before .before .before .read-bool .ensures) (k5 .before .r5 .given .1),
+      came resOfU32 (k1 .before .before .before .read-u32 .ensures) (k1 .before .r1 .given .1),
+      came resOfU32 (k2 .before .before .before .read-u322 .ensures) (k2 .before .r2 .given .1),
+      came resOfU32 (k3 .before .before .before .read-u323 .ensures) (k3 .before .r3 .given .1),
+      came resOfU32 (k4 .before .before .before .read-u324 .ensures) (k4 .before .r4 .given .1),
+      came resOfBool (k5 .before .before .before .read-bool .ensures) (k5 .before .r5 .given .1),
       sym (c .before .version-fits .ensures) ∙ not-false _ (c .if1 .left),
     )
 

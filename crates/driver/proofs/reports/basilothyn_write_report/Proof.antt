@@ -40,8 +40,8 @@ use denote.Exit.{yes}
 use Rattle.base.specs.Answer.{Answer}
 use Rattle.report.proofs.ReportHead as P
 use Rattle.report.proofs.ReportHead.Laws as P′
-use Rattle.report_write.specs.Writing.{after, reportsWritten}
-use Rattle.report_write.specs.Answers.{answerWritten, lengthOf}
+use Rattle.report_write.specs.Writing.{outputAfter, reportsWritten}
+use Rattle.report_write.specs.Answers.{answerOfWritten, lengthOf}
 use Rattle.report_write.specs.declared.body.Written.{Written}
 use Rattle.report_write.proofs.body.Written as N
 use Rattle.report_write.proofs.body.Written.Laws as N′
@@ -94,8 +94,8 @@ module _ {M : Type 1} (𝓤 : URA M) (H : Heap 𝓤) (A : Atoms 𝓤) (run-mem :
   abbrev Result : Contract 𝓤
   Result = tripleOf 𝓤 H A result.signature (result.spec 𝓤 H A run-mem run)
 
-  result-said : (r : Written) (n : WriteResult) → ent 𝓤 (ensured 𝓤 H A result.ended (result.clauses 𝓤 H A run-mem run) tt (r, tt) tt n) (fact 𝓤 (n ≡ writeResult (answerWritten r)))
-  result-said r n = exE 𝓤 _ (λ ws. snd∗ 𝓤 (sem 𝓤 H A (lasts result.ended tt (r, tt) ws)) (fact 𝓤 (n ≡ writeResult (answerWritten r))))
+  result-said : (r : Written) (n : WriteResult) → ent 𝓤 (ensured 𝓤 H A result.ended (result.clauses 𝓤 H A run-mem run) tt (r, tt) tt n) (fact 𝓤 (n ≡ writeResult (answerOfWritten r)))
+  result-said r n = exE 𝓤 _ (λ ws. snd∗ 𝓤 (sem 𝓤 H A (lasts result.ended tt (r, tt) ws)) (fact 𝓤 (n ≡ writeResult (answerOfWritten r))))
 
 module _ {M : Type 1} (𝓤 : URA M) (H : Heap 𝓤) (A : Atoms 𝓤) (W : Given 𝓤 H A) (run-mem : Memory → SProp 𝓤) (run : Routine → Fun 𝓤)
     (κ κ′ : Lft) (q q′ : Share) (c : ℕ) (d : ReportHeads) (x : RefT (List ErrorRecord)) (x′ : RefT (List ℕ))
@@ -133,10 +133,10 @@ module _ {M : Type 1} (𝓤 : URA M) (H : Heap 𝓤) (A : Atoms 𝓤) (W : Given
   Asked = reportsWritten c (d .heads) (recordsOf (x .now)) (length (x′ .now))
 
   abbrev Wrote : Written → List ℕ → Type 0
-  Wrote r zs = (answerWritten r ≡ lengthOf Asked) × (zs ≡ after (x′ .now) Asked)
+  Wrote r zs = (answerOfWritten r ≡ lengthOf Asked) × (zs ≡ outputAfter (x′ .now) Asked)
 
   abbrev Gave : WriteResult → List ℕ → Type 0
-  Gave n zs = (n ≡ writeResult (lengthOf Asked)) × (zs ≡ after (x′ .now) Asked)
+  Gave n zs = (n ≡ writeResult (lengthOf Asked)) × (zs ≡ outputAfter (x′ .now) Asked)
 
   -- the call of `write_error_list`
   abbrev to-list : Listed 𝓤 H A run-mem run .Ghost
@@ -196,7 +196,7 @@ module _ {M : Type 1} (𝓤 : URA M) (H : Heap 𝓤) (A : Atoms 𝓤) (W : Given
         -- [what is asked; the tokens; the output's last list; …; the list; true; _7 at 6; …; _5 at 10; …]
         calls-at ! fm (Result 𝓤 H A run-mem run) known-result (to-result r z) (and-then ! (load ! (from ! (stop !)) (look ! 10 refl)) (no-more !)) (λ u.
         use1 W (later (some (λ (n : WriteResult). (‵ ftrue ⊛ ‵ (R.the-row .own n (u ∷ []))) ⊛ raw (ensured 𝓤 H A result.ended (result.clauses 𝓤 H A run-mem run) tt (r, tt) tt n)))) (id⊢ 𝓤 _) $ await ! tt $ pick ! (λ n.
-        split ! $ move ! (1 ∷ []) $ use1 W (raw (fact 𝓤 (n ≡ writeResult (answerWritten r)))) (result-said 𝓤 H A run-mem run r n) $ heard ! (n ≡ writeResult (answerWritten r)) (λ g. split ! $ drop ! $
+        split ! $ move ! (1 ∷ []) $ use1 W (raw (fact 𝓤 (n ≡ writeResult (answerOfWritten r)))) (result-said 𝓤 H A run-mem run r n) $ heard ! (n ≡ writeResult (answerOfWritten r)) (λ g. split ! $ drop ! $
         peeks ! R.the-row (Is R.the-row) (shows 𝓤 H A R.the-row) n (u ∷ []) (λ is₁.
         -- [the result; the tokens; the output's last list; …; the list at 4; true; _7 at 6; …; _0 at 20; …]
         land ! (from ! (stop !)) (init ! 20 refl (LL.lawful R.the-type R′.the-laws 𝓤 H A W .typed n _ is₁ .0)) $

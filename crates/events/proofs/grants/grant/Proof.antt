@@ -3,7 +3,7 @@ use Prim.Native.Nat.{_+_, _-_}
 use Rattle.base.specs.Answer.{refused}
 use Rattle.base.specs.declared.refusal.Refusal.the-variants.{Unsound}
 use Rattle.events.proofs.EventLaws.{grant-done, grant-refused, is-unsound, own-refused, refused-left}
-use Rattle.layout4.specs.Answers.{layout4Answer, whyLayout4}
+use Rattle.layout4.specs.Answers.{answerOfLayout4, whyLayout4}
 use Rattle.layout4.specs.declared.whole.Layout4Answer.{Layout4Answer}
 use Rattle.reference.proofs.OwnLaws.{layout4-read}
 use Rattle.reference.specs.Model.{Grant}
@@ -51,12 +51,12 @@ returns-2 c =
     let starts = c .before .before .before .before .read-layout4 .result .starts in
     refused-left _ (now (c .before .before .before .before .before .before .before .before .before .before .args .store)) _ _ (c .refused2 .ensures)
     ∙ sym (own-refused _ (now (c .before .before .before .before .before .before .before .before .before .before .args .store)) (Grant (now (c .before .before .before .before .before .before .before .before .before .before .args .bytes))) _ (sym (c .before .before .before .before .before .before .sound .ensures) ∙ not-false _ (c .before .before .before .before .before .if1 .left))
-    (grant-refused _ _ (handed (λ (a : Layout4Answer). layout4Answer a starts) whyLayout4 refused (c .before .before .before .before .read-layout4 .ensures .0) (c .before .before .enum-told .given .1) (c .before .why-layout4 .ensures) refl)))
+    (grant-refused _ _ (handed (λ (a : Layout4Answer). answerOfLayout4 a starts) whyLayout4 refused (c .before .before .before .before .read-layout4 .ensures .0) (c .before .before .enum-told .given .1) (c .before .why-layout4 .ensures) refl)))
 
 add-end : tie.Need-add-end
 add-end c =
     let starts = c .before .before .before .before .before .read-layout4 .result .starts in
-    let w = layout4-read (now (c .before .before .before .before .before .before .before .before .before .before .before .args .bytes)) _ (came (λ (a : Layout4Answer). layout4Answer a starts) (c .before .before .before .before .before .read-layout4 .ensures .0) (c .before .before .before .a .given .1)) in
+    let w = layout4-read (now (c .before .before .before .before .before .before .before .before .before .before .before .args .bytes)) _ (came (λ (a : Layout4Answer). answerOfLayout4 a starts) (c .before .before .before .before .before .read-layout4 .ensures .0) (c .before .before .before .a .given .1)) in
     let h = w .within in
     omega arith
 
@@ -69,7 +69,7 @@ part-grant-body-start c = search needs
 part-grant-body-end : tie.Need-part-grant-body-end
 part-grant-body-end c =
     let starts = c .before .before .before .before .before .before .read-layout4 .result .starts in
-    let w = layout4-read (now (c .before .before .before .before .before .before .before .before .before .before .before .before .args .bytes)) _ (came (λ (a : Layout4Answer). layout4Answer a starts) (c .before .before .before .before .before .before .read-layout4 .ensures .0) (c .before .before .before .before .a .given .1)) in
+    let w = layout4-read (now (c .before .before .before .before .before .before .before .before .before .before .before .before .args .bytes)) _ (came (λ (a : Layout4Answer). answerOfLayout4 a starts) (c .before .before .before .before .before .before .read-layout4 .ensures .0) (c .before .before .before .before .a .given .1)) in
     let h = w .within in
     omega arith
 
@@ -82,7 +82,7 @@ same-length-3 c = search needs
 returns-3 : tie.Need-returns-3
 returns-3 c =
     let starts = c .before .before .before .before .before .before .before .before .before .before .read-layout4 .result .starts in
-    let k = came (λ (a : Layout4Answer). layout4Answer a starts) (c .before .before .before .before .before .before .before .before .before .before .read-layout4 .ensures .0) (c .before .before .before .before .before .before .before .before .a .given .1) in
+    let k = came (λ (a : Layout4Answer). answerOfLayout4 a starts) (c .before .before .before .before .before .before .before .before .before .before .read-layout4 .ensures .0) (c .before .before .before .before .before .before .before .before .a .given .1) in
     let p = c .before .before .before .before .before .before .before .before .a .given .0 .0 .body in
     c .before .before .grant-body .ensures ∙ grant-done _ (now (c .before .before .before .before .before .before .before .before .before .before .before .before .before .before .before .before .args .store)) (now (c .before .before .before .before .before .before .before .before .before .before .before .before .before .before .before .before .args .bytes)) _ (p .start + p .len - p .start) (sym (c .before .before .before .before .before .before .before .before .before .before .before .before .sound .ensures) ∙ not-false _ (c .before .before .before .before .before .before .before .before .before .before .before .if1 .left)) k (omega arith)
 

@@ -2,9 +2,9 @@
 use Rattle.layout.proofs.BodyLaws.{accepted-whole, all-read, fault-met, layout-parts, left-over, refused-whole, too-long}
 use Rattle.layout.proofs.FrontLaws.{front-read}
 use Rattle.layout.proofs.TableLaws.{mirrors-have, mirrors-read-too, mirrors-refused-too, starts-filled}
-use Rattle.layout.specs.Answers.{resFront, resTail, whyFront, whyTail}
+use Rattle.layout.specs.Answers.{resOfFront, resOfTail, whyFront, whyTail}
 use Rattle.layout.specs.Layouts.{layoutAt}
-use Rattle.layout.specs.Starts.{resStarts}
+use Rattle.layout.specs.Starts.{resOfStarts}
 use Rattle.server.specs.Answers.{whyEnd}
 use Rattle.server.specs.declared.handles.ReadEnd.{ReadEnd}
 use Rattle.xdr.proofs.Steps.{came, handed}
@@ -39,11 +39,11 @@ refused-requires-2 c κs = search needs
 
 returns-2 : tie.Need-returns-2
 unfolding layoutAt then
-returns-2 c = refused-whole _ _ _ _ (c .refused2 .ensures .0) (c .refused2 .ensures .1) (fault-met (now (c .before .before .before .before .before .before .before .args .s)) _ (c .before .before .before .before .before .if1 .left) (rw (handed resFront whyFront no (c .before .before .before .before .read-front .ensures) (c .before .before .enum-told .given .1) (c .before .why-front .ensures) refl)))
+returns-2 c = refused-whole _ _ _ _ (c .refused2 .ensures .0) (c .refused2 .ensures .1) (fault-met (now (c .before .before .before .before .before .before .before .args .s)) _ (c .before .before .before .before .before .if1 .left) (rw (handed resOfFront whyFront no (c .before .before .before .before .read-front .ensures) (c .before .before .enum-told .given .1) (c .before .why-front .ensures) refl)))
 
 read-mirrors-requires : tie.Need-read-mirrors-requires
 read-mirrors-requires c κs =
-    let f = front-read (now (c .before .before .before .before .before .before .before .args .s)) 0 _ _ (came resFront (c .before .before .before .before .read-front .ensures) (c .before .before .f .given .1)) in
+    let f = front-read (now (c .before .before .before .before .before .before .before .args .s)) 0 _ _ (came resOfFront (c .before .before .before .before .read-front .ensures) (c .before .before .f .given .1)) in
     ((c .before .before .before .before .before .if1 .left), f .within, f .mirrors-few, f .servers-few)
 
 enum-known-m : tie.Need-enum-known-m
@@ -61,8 +61,8 @@ refused-requires-3 c κs = search needs
 returns-3 : tie.Need-returns-3
 unfolding layoutAt then
 returns-3 c =
-    let m = mirrors-refused-too 0 _ _ _ (handed (λ (r : ReadEnd). resStarts r (c .before .before .before .before .read-mirrors .last .1 .1 .1 .1 .0)) whyEnd no (c .before .before .before .before .read-mirrors .ensures) (c .before .before .enum-told2 .given .1) (c .before .why-end .ensures) refl) in
-    refused-whole _ _ _ _ (c .refused3 .ensures .0) (c .refused3 .ensures .1) (fault-met (now (c .before .before .before .before .before .before .before .before .before .before .before .before .args .s)) _ (c .before .before .before .before .before .before .before .before .before .before .if1 .left) (rw (came resFront (c .before .before .before .before .before .before .before .before .before .read-front .ensures) (c .before .before .before .before .before .before .before .f .given .1), m)))
+    let m = mirrors-refused-too 0 _ _ _ (handed (λ (r : ReadEnd). resOfStarts r (c .before .before .before .before .read-mirrors .last .1 .1 .1 .1 .0)) whyEnd no (c .before .before .before .before .read-mirrors .ensures) (c .before .before .enum-told2 .given .1) (c .before .why-end .ensures) refl) in
+    refused-whole _ _ _ _ (c .refused3 .ensures .0) (c .refused3 .ensures .1) (fault-met (now (c .before .before .before .before .before .before .before .before .before .before .before .before .args .s)) _ (c .before .before .before .before .before .before .before .before .before .before .if1 .left) (rw (came resOfFront (c .before .before .before .before .before .before .before .before .before .read-front .ensures) (c .before .before .before .before .before .before .before .f .given .1), m)))
 
 read-tail-requires : tie.Need-read-tail-requires
 read-tail-requires c κs = search needs
@@ -82,24 +82,24 @@ refused-requires-4 c κs = search needs
 returns-4 : tie.Need-returns-4
 unfolding layoutAt then
 returns-4 c =
-    let m = mirrors-read-too 0 _ _ _ _ (came (λ (r : ReadEnd). resStarts r (c .before .before .before .before .before .before .before .before .read-mirrors .last .1 .1 .1 .1 .0)) (c .before .before .before .before .before .before .before .before .read-mirrors .ensures) (c .before .before .before .before .before .before .m .given .1)) in
-    refused-whole _ _ _ _ (c .refused4 .ensures .0) (c .refused4 .ensures .1) (fault-met (now (c .before .before .before .before .before .before .before .before .before .before .before .before .before .before .before .before .args .s)) _ (c .before .before .before .before .before .before .before .before .before .before .before .before .before .before .if1 .left) (rw (came resFront (c .before .before .before .before .before .before .before .before .before .before .before .before .before .read-front .ensures) (c .before .before .before .before .before .before .before .before .before .before .before .f .given .1), m .read, handed resTail whyTail no (c .before .before .before .before .read-tail .ensures) (c .before .before .enum-told3 .given .1) (c .before .why-tail .ensures) refl)))
+    let m = mirrors-read-too 0 _ _ _ _ (came (λ (r : ReadEnd). resOfStarts r (c .before .before .before .before .before .before .before .before .read-mirrors .last .1 .1 .1 .1 .0)) (c .before .before .before .before .before .before .before .before .read-mirrors .ensures) (c .before .before .before .before .before .before .m .given .1)) in
+    refused-whole _ _ _ _ (c .refused4 .ensures .0) (c .refused4 .ensures .1) (fault-met (now (c .before .before .before .before .before .before .before .before .before .before .before .before .before .before .before .before .args .s)) _ (c .before .before .before .before .before .before .before .before .before .before .before .before .before .before .if1 .left) (rw (came resOfFront (c .before .before .before .before .before .before .before .before .before .before .before .before .before .read-front .ensures) (c .before .before .before .before .before .before .before .before .before .before .before .f .given .1), m .read, handed resOfTail whyTail no (c .before .before .before .before .read-tail .ensures) (c .before .before .enum-told3 .given .1) (c .before .why-tail .ensures) refl)))
 
 refused-requires-5 : tie.Need-refused-requires-5
 refused-requires-5 c κs = search needs
 
 returns-5 : tie.Need-returns-5
 returns-5 c =
-    let m = mirrors-read-too 0 _ _ _ _ (came (λ (r : ReadEnd). resStarts r (c .before .before .before .before .before .before .before .before .before .before .read-mirrors .last .1 .1 .1 .1 .0)) (c .before .before .before .before .before .before .before .before .before .before .read-mirrors .ensures) (c .before .before .before .before .before .before .before .before .m .given .1)) in
-    refused-whole _ _ _ _ (c .refused5 .ensures .0) (c .refused5 .ensures .1) (left-over (now (c .before .before .before .before .before .before .before .before .before .before .before .before .before .before .before .before .before .before .args .s)) _ _ (c .before .before .before .before .before .before .before .before .before .before .before .before .before .before .before .before .if1 .left) (layout-parts (now (c .before .before .before .before .before .before .before .before .before .before .before .before .before .before .before .before .before .before .args .s)) _ _ _ _ _ _ (came resFront (c .before .before .before .before .before .before .before .before .before .before .before .before .before .before .before .read-front .ensures) (c .before .before .before .before .before .before .before .before .before .before .before .before .before .f .given .1)) (m .read) (came resTail (c .before .before .before .before .before .before .read-tail .ensures) (c .before .before .before .before .t .given .1))) (c .before .if2 .taken))
+    let m = mirrors-read-too 0 _ _ _ _ (came (λ (r : ReadEnd). resOfStarts r (c .before .before .before .before .before .before .before .before .before .before .read-mirrors .last .1 .1 .1 .1 .0)) (c .before .before .before .before .before .before .before .before .before .before .read-mirrors .ensures) (c .before .before .before .before .before .before .before .before .m .given .1)) in
+    refused-whole _ _ _ _ (c .refused5 .ensures .0) (c .refused5 .ensures .1) (left-over (now (c .before .before .before .before .before .before .before .before .before .before .before .before .before .before .before .before .before .before .args .s)) _ _ (c .before .before .before .before .before .before .before .before .before .before .before .before .before .before .before .before .if1 .left) (layout-parts (now (c .before .before .before .before .before .before .before .before .before .before .before .before .before .before .before .before .before .before .args .s)) _ _ _ _ _ _ (came resOfFront (c .before .before .before .before .before .before .before .before .before .before .before .before .before .before .before .read-front .ensures) (c .before .before .before .before .before .before .before .before .before .before .before .before .before .f .given .1)) (m .read) (came resOfTail (c .before .before .before .before .before .before .read-tail .ensures) (c .before .before .before .before .t .given .1))) (c .before .if2 .taken))
 
 returns-6 : tie.Need-returns-6
 returns-6 c =
-    let m = mirrors-read-too 0 _ _ _ _ (came (λ (r : ReadEnd). resStarts r (c .before .before .before .before .before .before .before .before .before .read-mirrors .last .1 .1 .1 .1 .0)) (c .before .before .before .before .before .before .before .before .before .read-mirrors .ensures) (c .before .before .before .before .before .before .before .m .given .1)) in
-    let f = front-read (now (c .before .before .before .before .before .before .before .before .before .before .before .before .before .before .before .before .before .args .s)) 0 _ _ (came resFront (c .before .before .before .before .before .before .before .before .before .before .before .before .before .before .read-front .ensures) (c .before .before .before .before .before .before .before .before .before .before .before .before .f .given .1)) in
+    let m = mirrors-read-too 0 _ _ _ _ (came (λ (r : ReadEnd). resOfStarts r (c .before .before .before .before .before .before .before .before .before .read-mirrors .last .1 .1 .1 .1 .0)) (c .before .before .before .before .before .before .before .before .before .read-mirrors .ensures) (c .before .before .before .before .before .before .before .m .given .1)) in
+    let f = front-read (now (c .before .before .before .before .before .before .before .before .before .before .before .before .before .before .before .before .before .args .s)) 0 _ _ (came resOfFront (c .before .before .before .before .before .before .before .before .before .before .before .before .before .before .read-front .ensures) (c .before .before .before .before .before .before .before .before .before .before .before .before .f .given .1)) in
     let r = mirrors-have _ _ (now (c .before .before .before .before .before .before .before .before .before .before .before .before .before .before .before .before .before .args .s)) _ (m .mirrors) _ (f .mirrors-some) (m .read) in
     let table = sym (starts-filled _ (m .mirrors) (f .servers-few) (r .each) (omega (arith, r .count, f .mirrors-few))) ∙ m .table in
-    accepted-whole _ _ _ _ table (all-read (now (c .before .before .before .before .before .before .before .before .before .before .before .before .before .before .before .before .before .args .s)) _ _ (c .before .before .before .before .before .before .before .before .before .before .before .before .before .before .before .if1 .left) (layout-parts (now (c .before .before .before .before .before .before .before .before .before .before .before .before .before .before .before .before .before .args .s)) _ _ _ _ _ _ (came resFront (c .before .before .before .before .before .before .before .before .before .before .before .before .before .before .read-front .ensures) (c .before .before .before .before .before .before .before .before .before .before .before .before .f .given .1)) (m .read) (came resTail (c .before .before .before .before .before .read-tail .ensures) (c .before .before .before .t .given .1))) (c .if2 .left))
+    accepted-whole _ _ _ _ table (all-read (now (c .before .before .before .before .before .before .before .before .before .before .before .before .before .before .before .before .before .args .s)) _ _ (c .before .before .before .before .before .before .before .before .before .before .before .before .before .before .before .if1 .left) (layout-parts (now (c .before .before .before .before .before .before .before .before .before .before .before .before .before .before .before .before .before .args .s)) _ _ _ _ _ _ (came resOfFront (c .before .before .before .before .before .before .before .before .before .before .before .before .before .before .read-front .ensures) (c .before .before .before .before .before .before .before .before .before .before .before .before .f .given .1)) (m .read) (came resOfTail (c .before .before .before .before .before .read-tail .ensures) (c .before .before .before .t .given .1))) (c .if2 .left))
 
 pub read-layout-spec : {M : Type 1} → statement M
 read-layout-spec =

@@ -4,7 +4,7 @@ use Rattle.layout.specs.Layouts.{mirrorAt}
 use Rattle.layout.specs.Starts.{withServers}
 use Rattle.xdr.proofs.Accepted.{count-read}
 use Rattle.xdr.proofs.Steps.{came, handed}
-use Rattle.xdr.specs.Answers.{resU32, whyU32}
+use Rattle.xdr.specs.Answers.{resOfU32, whyU32}
 use Rattle.xdr.specs.Res.{no, then}
 use borrow.Author.Needs.{needs}
 use borrow.Author.Tests.{eq-eqb, ne-eqb}
@@ -27,20 +27,20 @@ why-u32-requires c κs = search needs
 
 returns : tie.Need-returns
 unfolding mirrorAt then withServers
-returns c = rw (handed resU32 whyU32 no (c .before .before .before .read-count .ensures) (c .before .enum-told .given .1) (c .why-u32 .ensures) refl)
+returns c = rw (handed resOfU32 whyU32 no (c .before .before .before .read-count .ensures) (c .before .enum-told .given .1) (c .why-u32 .ensures) refl)
 
 returns-2 : tie.Need-returns-2
 unfolding mirrorAt then pick withServers
-returns-2 c = rw (came resU32 (c .before .before .before .before .read-count .ensures) (c .before .before .r .given .1), ne-eqb _ _ (c .if1 .taken))
+returns-2 c = rw (came resOfU32 (c .before .before .before .before .read-count .ensures) (c .before .before .r .given .1), ne-eqb _ _ (c .if1 .taken))
 
 read-servers-requires : tie.Need-read-servers-requires
 read-servers-requires c κs =
-    let n = count-read 1 16 (now (c .before .before .before .before .before .before .before .args .s)) (c .before .before .before .before .before .before .before .args .c .at) _ _ (came resU32 (c .before .before .before .before .before .read-count .ensures) (c .before .before .before .r .given .1)) in
+    let n = count-read 1 16 (now (c .before .before .before .before .before .before .before .args .s)) (c .before .before .before .before .before .before .before .args .c .at) _ _ (came resOfU32 (c .before .before .before .before .before .read-count .ensures) (c .before .before .before .r .given .1)) in
     (c .before .before .before .before .before .before .before .pre .0, n .number .within, c .before .before .before .before .before .before .before .pre .1)
 
 returns-3 : tie.Need-returns-3
 unfolding mirrorAt then pick
-returns-3 c = rw (came resU32 (c .before .before .before .before .before .before .read-count .ensures) (c .before .before .before .before .r .given .1), eq-eqb _ _ (c .before .before .if1 .left)) (c .read-servers .ensures)
+returns-3 c = rw (came resOfU32 (c .before .before .before .before .before .before .read-count .ensures) (c .before .before .before .before .r .given .1), eq-eqb _ _ (c .before .before .if1 .left)) (c .read-servers .ensures)
 
 pub read-mirror-spec : {M : Type 1} → statement M
 read-mirror-spec =

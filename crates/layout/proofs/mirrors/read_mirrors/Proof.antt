@@ -3,7 +3,7 @@
 use Prim.Native.Nat.{ℕ, _+_, _-_, _*_, _≤_}
 use Rattle.layout.proofs.StartLaws.{mirrors-next, mirrors-none, mirrors-refused, row-read, row-refused}
 use Rattle.layout.specs.Layouts.{mirrorAt, mirrorsAt}
-use Rattle.layout.specs.Starts.{resStarts, withMirrors}
+use Rattle.layout.specs.Starts.{resOfStarts, withMirrors}
 use Rattle.server.specs.Servers.{serverAt}
 use Rattle.server.specs.declared.handles.ReadEnd.{ReadEnd}
 use Rattle.xdr.proofs.Steps.{came}
@@ -34,7 +34,7 @@ enum-told c = search needs
 returns : tie.Need-returns Inv-loop μ-loop
 unfolding mirrorsAt
 returns c =
-    let says : ReadEnd → Res (List ℕ) = λ r. resStarts r (c .before .before .read-servers .last .1 .1 .1 .1 .0) in
+    let says : ReadEnd → Res (List ℕ) = λ r. resOfStarts r (c .before .before .read-servers .last .1 .1 .1 .1 .0) in
     ap says (c .enum-told .given .1) ∙ sym (row-refused 0 (manyAt serverAt (c .before .before .before .before .before .args .servers) (now (c .before .before .before .before .before .args .s)) (c .before .before .before .before .before .args .c .at)) _ (now (c .before .before .before .before .before .args .starts)) _ (came says (c .before .before .read-servers .ensures) (c .enum-told .given .1)))
 
 loop-holds : tie.Need-loop-holds Inv-loop μ-loop
@@ -58,8 +58,8 @@ returns-2 c =
     let s = now (c .before .before .before .before .before .before .before .before .before .before .before .before .args .s) in
     let n = c .before .before .before .before .before .before .before .before .before .before .before .before .args .servers in
     let l = c .before .before .before .before .before .loop in
-    let says : ReadEnd → Res (List ℕ) = λ r. resStarts r (c .before .before .read-mirror .last .1 .1 .1 .1 .0) in
-    let first = row-read 0 (manyAt serverAt n s (c .before .before .before .before .before .before .before .before .before .before .before .before .args .c .at)) (λ p1. manyAt (mirrorAt n) (c .before .before .before .before .before .before .before .before .before .before .before .before .args .mirrors - 1) s p1) (now (c .before .before .before .before .before .before .before .before .before .before .before .before .args .starts)) _ _ (came (λ (r : ReadEnd). resStarts r (c .before .before .before .before .before .before .before .before .before .read-servers .last .1 .1 .1 .1 .0)) (c .before .before .before .before .before .before .before .before .before .read-servers .ensures) (c .before .before .before .before .before .before .before .f .given .1)) in
+    let says : ReadEnd → Res (List ℕ) = λ r. resOfStarts r (c .before .before .read-mirror .last .1 .1 .1 .1 .0) in
+    let first = row-read 0 (manyAt serverAt n s (c .before .before .before .before .before .before .before .before .before .before .before .before .args .c .at)) (λ p1. manyAt (mirrorAt n) (c .before .before .before .before .before .before .before .before .before .before .before .before .args .mirrors - 1) s p1) (now (c .before .before .before .before .before .before .before .before .before .before .before .before .args .starts)) _ _ (came (λ (r : ReadEnd). resOfStarts r (c .before .before .before .before .before .before .before .before .before .read-servers .last .1 .1 .1 .1 .0)) (c .before .before .before .before .before .before .before .before .before .read-servers .ensures) (c .before .before .before .before .before .before .before .f .given .1)) in
     let here = mirrors-refused n s (c .before .before .before .before .before .before .before .before .before .before .before .before .args .mirrors - l .m) (l .m * 16) (l .d .at) (l .starts) _ (omega arith) (came says (c .before .before .read-mirror .ensures) (c .enum-told2 .given .1)) in
     ap says (c .enum-told2 .given .1) ∙ sym (first ∙ l .inv .1 ∙ here)
 
@@ -74,7 +74,7 @@ loop-again c =
     let s = now (c .before .before .before .before .before .before .before .before .before .before .before .before .before .args .s) in
     let n = c .before .before .before .before .before .before .before .before .before .before .before .before .before .args .servers in
     let l = c .before .before .before .before .before .before .loop in
-    let says : ReadEnd → Res (List ℕ) = λ r. resStarts r (c .before .before .before .read-mirror .last .1 .1 .1 .1 .0) in
+    let says : ReadEnd → Res (List ℕ) = λ r. resOfStarts r (c .before .before .before .read-mirror .last .1 .1 .1 .1 .0) in
     let here = mirrors-next n s (c .before .before .before .before .before .before .before .before .before .before .before .before .before .args .mirrors - l .m) (l .m * 16) (l .d .at) (l .starts) _ _ (omega arith) (came says (c .before .before .before .read-mirror .ensures) (c .before .r .given .1)) in
     let e : (l .m + 1) * 16 ≡ l .m * 16 + 16 = omega arith in
     let f : c .before .before .before .before .before .before .before .before .before .before .before .before .before .args .mirrors - (l .m + 1) ≡ c .before .before .before .before .before .before .before .before .before .before .before .before .before .args .mirrors - l .m - 1 = omega arith in
@@ -86,7 +86,7 @@ returns-3 c =
     let s = now (c .before .before .before .before .before .before .before .before .args .s) in
     let n = c .before .before .before .before .before .before .before .before .args .servers in
     let l = c .before .loop in
-    let first = row-read 0 (manyAt serverAt n s (c .before .before .before .before .before .before .before .before .args .c .at)) (λ p1. manyAt (mirrorAt n) (c .before .before .before .before .before .before .before .before .args .mirrors - 1) s p1) (now (c .before .before .before .before .before .before .before .before .args .starts)) _ _ (came (λ (r : ReadEnd). resStarts r (c .before .before .before .before .before .read-servers .last .1 .1 .1 .1 .0)) (c .before .before .before .before .before .read-servers .ensures) (c .before .before .before .f .given .1)) in
+    let first = row-read 0 (manyAt serverAt n s (c .before .before .before .before .before .before .before .before .args .c .at)) (λ p1. manyAt (mirrorAt n) (c .before .before .before .before .before .before .before .before .args .mirrors - 1) s p1) (now (c .before .before .before .before .before .before .before .before .args .starts)) _ _ (came (λ (r : ReadEnd). resOfStarts r (c .before .before .before .before .before .read-servers .last .1 .1 .1 .1 .0)) (c .before .before .before .before .before .read-servers .ensures) (c .before .before .before .f .given .1)) in
     sym (first ∙ l .inv .1 ∙ mirrors-none n s (c .before .before .before .before .before .before .before .before .args .mirrors - l .m) (l .m * 16) (l .d .at) (l .starts) (omega arith))
 
 pub read-mirrors-spec : {M : Type 1} → statement M

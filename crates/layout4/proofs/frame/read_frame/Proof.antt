@@ -1,11 +1,11 @@
 -- `layout4::frame::read_frame` meets its contract, item by item.
 use Rattle.base.specs.Answer.{pick, refused}
 use Rattle.base.specs.Iomodes.{answerOfIomode, whyIomode}
-use Rattle.layout4.specs.Answers.{resRange, whyRange}
+use Rattle.layout4.specs.Answers.{resOfRange, whyRange}
 use Rattle.layout4.specs.Layout4s.{frameAt}
 use Rattle.xdr.proofs.Steps.{came, handed}
-use Rattle.xdr.specs.Answers.{resU32, whyU32}
-use Rattle.xdr.specs.Res.{inside, no, then}
+use Rattle.xdr.specs.Answers.{resOfU32, whyU32}
+use Rattle.xdr.specs.Res.{asItem, no, then}
 use borrow.Author.Needs.{needs}
 use borrow.Author.Tests.{eq-eqb, ne-eqb}
 use mathlib.Core.Path.{refl}
@@ -25,8 +25,8 @@ why-range-requires : tie.Need-why-range-requires
 why-range-requires c κs = search needs
 
 returns : tie.Need-returns
-unfolding frameAt then inside pick
-returns c = rw (handed resRange whyRange no (c .before .before .before .read-range .ensures) (c .before .enum-told .given .1) (c .why-range .ensures) refl)
+unfolding frameAt then asItem pick
+returns c = rw (handed resOfRange whyRange no (c .before .before .before .read-range .ensures) (c .before .enum-told .given .1) (c .why-range .ensures) refl)
 
 read-u32-requires : tie.Need-read-u32-requires
 read-u32-requires c κs = search needs
@@ -41,8 +41,8 @@ why-u32-requires : tie.Need-why-u32-requires
 why-u32-requires c κs = search needs
 
 returns-2 : tie.Need-returns-2
-unfolding frameAt then inside pick
-returns-2 c = rw (came resRange (c .before .before .before .before .before .before .before .read-range .ensures) (c .before .before .before .before .before .a .given .1), handed resU32 whyU32 no (c .before .before .before .read-u32 .ensures) (c .before .enum-told2 .given .1) (c .why-u32 .ensures) refl)
+unfolding frameAt then asItem pick
+returns-2 c = rw (came resOfRange (c .before .before .before .before .before .before .before .read-range .ensures) (c .before .before .before .before .before .a .given .1), handed resOfU32 whyU32 no (c .before .before .before .read-u32 .ensures) (c .before .enum-told2 .given .1) (c .why-u32 .ensures) refl)
 
 grant-iomode-requires : tie.Need-grant-iomode-requires
 grant-iomode-requires c κs = search needs
@@ -57,8 +57,8 @@ why-iomode-requires : tie.Need-why-iomode-requires
 why-iomode-requires c κs = search needs
 
 returns-3 : tie.Need-returns-3
-unfolding frameAt then inside pick
-returns-3 c = rw (came resRange (c .before .before .before .before .before .before .before .before .before .before .before .read-range .ensures) (c .before .before .before .before .before .before .before .before .before .a .given .1), came resU32 (c .before .before .before .before .before .before .before .read-u32 .ensures) (c .before .before .before .before .before .m .given .1), handed answerOfIomode whyIomode refused (c .before .before .before .grant-iomode .ensures) (c .before .enum-told3 .given .1) (c .why-iomode .ensures) refl)
+unfolding frameAt then asItem pick
+returns-3 c = rw (came resOfRange (c .before .before .before .before .before .before .before .before .before .before .before .read-range .ensures) (c .before .before .before .before .before .before .before .before .before .a .given .1), came resOfU32 (c .before .before .before .before .before .before .before .read-u32 .ensures) (c .before .before .before .before .before .m .given .1), handed answerOfIomode whyIomode refused (c .before .before .before .grant-iomode .ensures) (c .before .enum-told3 .given .1) (c .why-iomode .ensures) refl)
 
 read-u32-requires-2 : tie.Need-read-u32-requires-2
 read-u32-requires-2 c κs = search needs
@@ -73,12 +73,12 @@ why-u32-requires-2 : tie.Need-why-u32-requires-2
 why-u32-requires-2 c κs = search needs
 
 returns-4 : tie.Need-returns-4
-unfolding frameAt then inside pick
-returns-4 c = rw (came resRange (c .before .before .before .before .before .before .before .before .before .before .before .before .before .before .before .read-range .ensures) (c .before .before .before .before .before .before .before .before .before .before .before .before .before .a .given .1), came resU32 (c .before .before .before .before .before .before .before .before .before .before .before .read-u32 .ensures) (c .before .before .before .before .before .before .before .before .before .m .given .1), came answerOfIomode (c .before .before .before .before .before .before .before .grant-iomode .ensures) (c .before .before .before .before .before .g .given .1), handed resU32 whyU32 no (c .before .before .before .read-u322 .ensures) (c .before .enum-told4 .given .1) (c .why-u322 .ensures) refl)
+unfolding frameAt then asItem pick
+returns-4 c = rw (came resOfRange (c .before .before .before .before .before .before .before .before .before .before .before .before .before .before .before .read-range .ensures) (c .before .before .before .before .before .before .before .before .before .before .before .before .before .a .given .1), came resOfU32 (c .before .before .before .before .before .before .before .before .before .before .before .read-u32 .ensures) (c .before .before .before .before .before .before .before .before .before .m .given .1), came answerOfIomode (c .before .before .before .before .before .before .before .grant-iomode .ensures) (c .before .before .before .before .before .g .given .1), handed resOfU32 whyU32 no (c .before .before .before .read-u322 .ensures) (c .before .enum-told4 .given .1) (c .why-u322 .ensures) refl)
 
 returns-5 : tie.Need-returns-5
-unfolding frameAt then inside pick
-returns-5 c = rw (came resRange (c .before .before .before .before .before .before .before .before .before .before .before .before .before .before .before .before .read-range .ensures) (c .before .before .before .before .before .before .before .before .before .before .before .before .before .before .a .given .1), came resU32 (c .before .before .before .before .before .before .before .before .before .before .before .before .read-u32 .ensures) (c .before .before .before .before .before .before .before .before .before .before .m .given .1), came answerOfIomode (c .before .before .before .before .before .before .before .before .grant-iomode .ensures) (c .before .before .before .before .before .before .g .given .1), came resU32 (c .before .before .before .before .read-u322 .ensures) (c .before .before .t .given .1), ne-eqb _ _ (c .if1 .taken))
+unfolding frameAt then asItem pick
+returns-5 c = rw (came resOfRange (c .before .before .before .before .before .before .before .before .before .before .before .before .before .before .before .before .read-range .ensures) (c .before .before .before .before .before .before .before .before .before .before .before .before .before .before .a .given .1), came resOfU32 (c .before .before .before .before .before .before .before .before .before .before .before .before .read-u32 .ensures) (c .before .before .before .before .before .before .before .before .before .before .m .given .1), came answerOfIomode (c .before .before .before .before .before .before .before .before .grant-iomode .ensures) (c .before .before .before .before .before .before .g .given .1), came resOfU32 (c .before .before .before .before .read-u322 .ensures) (c .before .before .t .given .1), ne-eqb _ _ (c .if1 .taken))
 
 read-count-requires : tie.Need-read-count-requires
 read-count-requires c κs = search needs
@@ -93,12 +93,12 @@ why-u32-requires-3 : tie.Need-why-u32-requires-3
 why-u32-requires-3 c κs = search needs
 
 returns-6 : tie.Need-returns-6
-unfolding frameAt then inside pick
-returns-6 c = rw (came resRange (c .before .before .before .before .before .before .before .before .before .before .before .before .before .before .before .before .before .before .before .before .read-range .ensures) (c .before .before .before .before .before .before .before .before .before .before .before .before .before .before .before .before .before .before .a .given .1), came resU32 (c .before .before .before .before .before .before .before .before .before .before .before .before .before .before .before .before .read-u32 .ensures) (c .before .before .before .before .before .before .before .before .before .before .before .before .before .before .m .given .1), came answerOfIomode (c .before .before .before .before .before .before .before .before .before .before .before .before .grant-iomode .ensures) (c .before .before .before .before .before .before .before .before .before .before .g .given .1), came resU32 (c .before .before .before .before .before .before .before .before .read-u322 .ensures) (c .before .before .before .before .before .before .t .given .1), eq-eqb _ _ (c .before .before .before .before .if1 .left), handed resU32 whyU32 no (c .before .before .before .read-count .ensures) (c .before .enum-told5 .given .1) (c .why-u323 .ensures) refl)
+unfolding frameAt then asItem pick
+returns-6 c = rw (came resOfRange (c .before .before .before .before .before .before .before .before .before .before .before .before .before .before .before .before .before .before .before .before .read-range .ensures) (c .before .before .before .before .before .before .before .before .before .before .before .before .before .before .before .before .before .before .a .given .1), came resOfU32 (c .before .before .before .before .before .before .before .before .before .before .before .before .before .before .before .before .read-u32 .ensures) (c .before .before .before .before .before .before .before .before .before .before .before .before .before .before .m .given .1), came answerOfIomode (c .before .before .before .before .before .before .before .before .before .before .before .before .grant-iomode .ensures) (c .before .before .before .before .before .before .before .before .before .before .g .given .1), came resOfU32 (c .before .before .before .before .before .before .before .before .read-u322 .ensures) (c .before .before .before .before .before .before .t .given .1), eq-eqb _ _ (c .before .before .before .before .if1 .left), handed resOfU32 whyU32 no (c .before .before .before .read-count .ensures) (c .before .enum-told5 .given .1) (c .why-u323 .ensures) refl)
 
 returns-7 : tie.Need-returns-7
-unfolding frameAt then inside pick
-returns-7 c = rw (came resRange (c .before .before .before .before .before .before .before .before .before .before .before .before .before .before .before .before .before .before .before .before .read-range .ensures) (c .before .before .before .before .before .before .before .before .before .before .before .before .before .before .before .before .before .before .a .given .1), came resU32 (c .before .before .before .before .before .before .before .before .before .before .before .before .before .before .before .before .read-u32 .ensures) (c .before .before .before .before .before .before .before .before .before .before .before .before .before .before .m .given .1), came answerOfIomode (c .before .before .before .before .before .before .before .before .before .before .before .before .grant-iomode .ensures) (c .before .before .before .before .before .before .before .before .before .before .g .given .1), came resU32 (c .before .before .before .before .before .before .before .before .read-u322 .ensures) (c .before .before .before .before .before .before .t .given .1), eq-eqb _ _ (c .before .before .before .before .if1 .left), came resU32 (c .before .before .before .read-count .ensures) (c .before .n .given .1))
+unfolding frameAt then asItem pick
+returns-7 c = rw (came resOfRange (c .before .before .before .before .before .before .before .before .before .before .before .before .before .before .before .before .before .before .before .before .read-range .ensures) (c .before .before .before .before .before .before .before .before .before .before .before .before .before .before .before .before .before .before .a .given .1), came resOfU32 (c .before .before .before .before .before .before .before .before .before .before .before .before .before .before .before .before .read-u32 .ensures) (c .before .before .before .before .before .before .before .before .before .before .before .before .before .before .m .given .1), came answerOfIomode (c .before .before .before .before .before .before .before .before .before .before .before .before .grant-iomode .ensures) (c .before .before .before .before .before .before .before .before .before .before .g .given .1), came resOfU32 (c .before .before .before .before .before .before .before .before .read-u322 .ensures) (c .before .before .before .before .before .before .t .given .1), eq-eqb _ _ (c .before .before .before .before .if1 .left), came resOfU32 (c .before .before .before .read-count .ensures) (c .before .n .given .1))
 
 pub read-frame-spec : {M : Type 1} → statement M
 read-frame-spec =

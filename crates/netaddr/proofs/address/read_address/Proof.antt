@@ -3,7 +3,7 @@ use Prim.Native.Nat.{_+_, _-_}
 use Rattle.netaddr.proofs.AddressLaws.{part-within}
 use Rattle.netaddr.specs.Addresses.{addressAt}
 use Rattle.xdr.proofs.Steps.{came, handed}
-use Rattle.xdr.specs.Answers.{resPart, whyPart}
+use Rattle.xdr.specs.Answers.{resOfPart, whyPart}
 use Rattle.xdr.specs.Res.{no, then}
 use borrow.Author.Needs.{needs}
 use mathlib.Core.Path.{_≡_, refl}
@@ -25,7 +25,7 @@ why-part-requires c κs = search needs
 
 returns : tie.Need-returns
 unfolding addressAt then
-returns c = rw (handed resPart whyPart no (c .before .before .before .read-opaque .ensures) (c .before .enum-told .given .1) (c .why-part .ensures) refl)
+returns c = rw (handed resOfPart whyPart no (c .before .before .before .read-opaque .ensures) (c .before .enum-told .given .1) (c .why-part .ensures) refl)
 
 read-opaque-requires-2 : tie.Need-read-opaque-requires-2
 read-opaque-requires-2 c κs = search needs
@@ -44,14 +44,14 @@ unfolding addressAt then
 returns-2 c =
     let k1 = c .before .before .before .before in
     rw (
-      came resPart (k1 .before .before .before .read-opaque .ensures) (k1 .before .first .given .1),
-      handed resPart whyPart no (c .before .before .before .read-opaque2 .ensures) (c .before .enum-told2 .given .1) (c .why-part2 .ensures) refl,
+      came resOfPart (k1 .before .before .before .read-opaque .ensures) (k1 .before .first .given .1),
+      handed resOfPart whyPart no (c .before .before .before .read-opaque2 .ensures) (c .before .enum-told2 .given .1) (c .why-part2 .ensures) refl,
     )
 
 add-end : tie.Need-add-end
 add-end c =
     let k1 = c .before .before .before .before .before in
-    omega (arith, part-within 1 8 _ _ _ _ (came resPart (k1 .before .before .before .read-opaque .ensures) (k1 .before .first .given .1)))
+    omega (arith, part-within 1 8 _ _ _ _ (came resOfPart (k1 .before .before .before .read-opaque .ensures) (k1 .before .first .given .1)))
 
 sub-class-of : tie.Need-sub-class-of
 sub-class-of c = search needs
@@ -62,7 +62,7 @@ part-class-of-start c = search needs
 part-class-of-end : tie.Need-part-class-of-end
 part-class-of-end c =
     let k1 = c .before .before .before .before .before in
-    omega (arith, part-within 1 8 _ _ _ _ (came resPart (k1 .before .before .before .read-opaque .ensures) (k1 .before .first .given .1)))
+    omega (arith, part-within 1 8 _ _ _ _ (came resOfPart (k1 .before .before .before .read-opaque .ensures) (k1 .before .first .given .1)))
 
 class-of-requires : tie.Need-class-of-requires
 class-of-requires c κs = search needs
@@ -75,8 +75,8 @@ returns-3 c =
     let v = k1 .before .first .given .0 .0 in
     let e : v .start + v .len - v .start ≡ v .len = omega arith in
     rw (
-      came resPart (k1 .before .before .before .read-opaque .ensures) (k1 .before .first .given .1),
-      came resPart (k2 .before .before .before .read-opaque2 .ensures) (k2 .before .second .given .1),
+      came resOfPart (k1 .before .before .before .read-opaque .ensures) (k1 .before .first .given .1),
+      came resOfPart (k2 .before .before .before .read-opaque2 .ensures) (k2 .before .second .given .1),
       c .class-of .ensures,
       e,
     )

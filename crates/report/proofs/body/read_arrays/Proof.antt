@@ -3,7 +3,7 @@
 use Prim.Native.Nat.{_+_, _-_, _≤_}
 use Rattle.base.specs.Lists.{padded}
 use Rattle.report.proofs.ReportLaws.{arrays-done, arrays-next, arrays-refused, heads-next, places-next, stateid-inside}
-use Rattle.report.specs.Answers.{arraysFrom, headFrom, headsOf, placesOf, resReport, whyReport}
+use Rattle.report.specs.Answers.{arraysFrom, headFrom, headsOf, placesOf, resOfReport, whyReport}
 use Rattle.report.specs.Reports.{Report, reportAt}
 use Rattle.xdr.proofs.Steps.{came, handed}
 use Rattle.xdr.specs.Res.{no, manyAt}
@@ -48,10 +48,10 @@ returns : tie.Need-returns Inv-loop μ-loop
 returns c =
     let l = c .before .before .before .before .before .loop in
     let s = now (c .before .before .before .before .before .before .before .before .args .s) in
-    rw (l .inv .7, arrays-refused (l .inv .0) (c .before .before .before .before .before .before .before .before .args .n - l .i) s (l .d .at) _ (omega arith) (handed (resReport s) whyReport no (c .before .before .before .read-report .ensures) (c .before .enum-told .given .1) (c .why-report .ensures) refl))
+    rw (l .inv .7, arrays-refused (l .inv .0) (c .before .before .before .before .before .before .before .before .args .n - l .i) s (l .d .at) _ (omega arith) (handed (resOfReport s) whyReport no (c .before .before .before .read-report .ensures) (c .before .enum-told .given .1) (c .why-report .ensures) refl))
 
 head-of-requires : tie.Need-head-of-requires Inv-loop μ-loop
-head-of-requires c κs = stateid-inside (now (c .before .before .before .before .before .before .before .before .args .s)) (c .before .before .before .before .before .loop .d .at) _ _ _ (came (resReport (now (c .before .before .before .before .before .before .before .before .args .s))) (c .before .before .before .read-report .ensures) (c .before .r .given .1))
+head-of-requires c κs = stateid-inside (now (c .before .before .before .before .before .before .before .before .args .s)) (c .before .before .before .before .before .loop .d .at) _ _ _ (came (resOfReport (now (c .before .before .before .before .before .before .before .before .args .s))) (c .before .before .before .read-report .ensures) (c .before .r .given .1))
 
 mul-heads : tie.Need-mul-heads Inv-loop μ-loop
 mul-heads c = search needs
@@ -78,7 +78,7 @@ loop-again c =
     let e : c .before .before .before .before .before .before .before .before .before .args .n - (l .i + 1) ≡ c .before .before .before .before .before .before .before .before .before .args .n - l .i - 1 = omega arith in
     let r : Report = record { head = headFrom s (c .before .before .r .given .0 .0); errors-at = c .before .before .r .given .0 .1 .0 } in
     let n : length (l .inv .0 ++ (r ∷ [])) ≡ l .i + 1 = simp length-append (omega (arith, l .inv .1)) in
-    let k = came (resReport s) (c .before .before .before .before .read-report .ensures) (c .before .before .r .given .1) in (
+    let k = came (resOfReport s) (c .before .before .before .before .read-report .ensures) (c .before .before .r .given .1) in (
       l .inv .0 ++ (r ∷ []),
       n,
       omega arith,

@@ -1,14 +1,13 @@
 -- `report::body::read_reports` meets its contract: the count, the reports, the statistics count, the end.
 use Rattle.base.specs.Answer.{accepted, pick}
 use Rattle.base.specs.Refusals.{numberOf}
-use Rattle.xdr.proofs.Accepted.{many-length}
+use Rattle.xdr.proofs.Accepted.{count-read, many-length}
 use Rattle.report.proofs.ReportLaws.{answer-accepted, answer-refused, arrays-no, arrays-ok, body-accepted}
-use Rattle.report.proofs.Runs.{count-ran}
-use Rattle.report.specs.Answers.{resArrays, whyEnd}
+use Rattle.report.specs.Answers.{resOfArrays, whyEnd}
 use Rattle.report.specs.Reports.{reportAt, reportBody}
 use Rattle.report.specs.declared.error.ReadEnd.{ReadEnd}
 use Rattle.xdr.proofs.Steps.{came, handed}
-use Rattle.xdr.specs.Answers.{resU32, whyU32}
+use Rattle.xdr.specs.Answers.{resOfU32, whyU32}
 use Rattle.xdr.specs.Res.{no, then, whole}
 use borrow.Author.Needs.{needs}
 use borrow.Author.Tests.{ne-eqb}
@@ -36,11 +35,11 @@ returns : tie.Need-returns
 unfolding reportBody then whole
 returns c =
     answer-refused _ (numberOf (c .before .why-u32 .result)) _ _ _
-    (rw (handed resU32 whyU32 no (c .before .before .before .before .read-count .ensures) (c .before .before .enum-told .given .1) (c .before .why-u32 .ensures) refl))
+    (rw (handed resOfU32 whyU32 no (c .before .before .before .before .read-count .ensures) (c .before .before .enum-told .given .1) (c .before .why-u32 .ensures) refl))
     (c .refused .ensures)
 
 read-arrays-requires : tie.Need-read-arrays-requires
-read-arrays-requires c κs = count-ran 0 8 (now (c .before .before .before .before .before .args .s)) 0 _ _ (came resU32 (c .before .before .before .read-count .ensures) (c .before .rn .given .1)) .2
+read-arrays-requires c κs = count-read 0 8 (now (c .before .before .before .before .before .args .s)) 0 _ _ (came resOfU32 (c .before .before .before .read-count .ensures) (c .before .rn .given .1)) .high
 
 enum-known-end : tie.Need-enum-known-end
 enum-known-end c = search needs
@@ -59,8 +58,8 @@ unfolding reportBody then whole
 returns-2 c =
     let r = c .before .before .before .before .read-arrays .result in
     let w = numberOf (c .before .why-end .result) in
-    let n = arrays-no _ w (handed (λ (e : ReadEnd). resArrays e (r .heads) (r .«errors_at»)) whyEnd no (c .before .before .before .before .read-arrays .ensures) (c .before .before .enum-told2 .given .1) (c .before .why-end .ensures) refl) in
-    answer-refused _ w _ _ _ (rw (came resU32 (c .before .before .before .before .before .before .before .before .read-count .ensures) (c .before .before .before .before .before .before .rn .given .1), n)) (c .refused2 .ensures)
+    let n = arrays-no _ w (handed (λ (e : ReadEnd). resOfArrays e (r .heads) (r .«errors_at»)) whyEnd no (c .before .before .before .before .read-arrays .ensures) (c .before .before .enum-told2 .given .1) (c .before .why-end .ensures) refl) in
+    answer-refused _ w _ _ _ (rw (came resOfU32 (c .before .before .before .before .before .before .before .before .read-count .ensures) (c .before .before .before .before .before .before .rn .given .1), n)) (c .refused2 .ensures)
 
 read-count-requires-2 : tie.Need-read-count-requires-2
 read-count-requires-2 c κs = search needs
@@ -81,9 +80,9 @@ returns-3 : tie.Need-returns-3
 unfolding reportBody then whole
 returns-3 c =
     let r = c .before .before .before .before .before .before .before .before .read-arrays .result in
-    let a = arrays-ok _ (r .heads) (r .«errors_at») _ (came (λ (e : ReadEnd). resArrays e (r .heads) (r .«errors_at»)) (c .before .before .before .before .before .before .before .before .read-arrays .ensures) (c .before .before .before .before .before .before .end .given .1)) in
+    let a = arrays-ok _ (r .heads) (r .«errors_at») _ (came (λ (e : ReadEnd). resOfArrays e (r .heads) (r .«errors_at»)) (c .before .before .before .before .before .before .before .before .read-arrays .ensures) (c .before .before .before .before .before .before .end .given .1)) in
     answer-refused _ (numberOf (c .before .why-u322 .result)) _ _ _
-    (rw (came resU32 (c .before .before .before .before .before .before .before .before .before .before .before .before .read-count .ensures) (c .before .before .before .before .before .before .before .before .before .before .rn .given .1), a .were, handed resU32 whyU32 no (c .before .before .before .before .read-count2 .ensures) (c .before .before .enum-told3 .given .1) (c .before .why-u322 .ensures) refl))
+    (rw (came resOfU32 (c .before .before .before .before .before .before .before .before .before .before .before .before .read-count .ensures) (c .before .before .before .before .before .before .before .before .before .before .rn .given .1), a .were, handed resOfU32 whyU32 no (c .before .before .before .before .read-count2 .ensures) (c .before .before .enum-told3 .given .1) (c .before .why-u322 .ensures) refl))
     (c .refused3 .ensures)
 
 refused-requires-4 : tie.Need-refused-requires-4
@@ -93,18 +92,18 @@ returns-4 : tie.Need-returns-4
 unfolding reportBody then whole pick
 returns-4 c =
     let r = c .before .before .before .before .before .before .before .before .before .before .read-arrays .result in
-    let a = arrays-ok _ (r .heads) (r .«errors_at») _ (came (λ (e : ReadEnd). resArrays e (r .heads) (r .«errors_at»)) (c .before .before .before .before .before .before .before .before .before .before .read-arrays .ensures) (c .before .before .before .before .before .before .before .before .end .given .1)) in
+    let a = arrays-ok _ (r .heads) (r .«errors_at») _ (came (λ (e : ReadEnd). resOfArrays e (r .heads) (r .«errors_at»)) (c .before .before .before .before .before .before .before .before .before .before .read-arrays .ensures) (c .before .before .before .before .before .before .before .before .end .given .1)) in
     answer-refused _ 2 _ _ _
-    (rw (came resU32 (c .before .before .before .before .before .before .before .before .before .before .before .before .before .before .read-count .ensures) (c .before .before .before .before .before .before .before .before .before .before .before .before .rn .given .1), a .were, came resU32 (c .before .before .before .before .before .before .read-count2 .ensures) (c .before .before .before .before .rk .given .1), ne-eqb _ _ (c .before .if1 .taken)))
+    (rw (came resOfU32 (c .before .before .before .before .before .before .before .before .before .before .before .before .before .before .read-count .ensures) (c .before .before .before .before .before .before .before .before .before .before .before .before .rn .given .1), a .were, came resOfU32 (c .before .before .before .before .before .before .read-count2 .ensures) (c .before .before .before .before .rk .given .1), ne-eqb _ _ (c .before .if1 .taken)))
     (c .refused4 .ensures)
 
 returns-5 : tie.Need-returns-5
 returns-5 c =
     let r = c .before .before .before .before .before .before .before .before .before .before .before .read-arrays .result in
     let s = now (c .before .before .before .before .before .before .before .before .before .before .before .before .before .before .before .before .before .args .s) in
-    let a = arrays-ok _ (r .heads) (r .«errors_at») _ (came (λ (e : ReadEnd). resArrays e (r .heads) (r .«errors_at»)) (c .before .before .before .before .before .before .before .before .before .before .before .read-arrays .ensures) (c .before .before .before .before .before .before .before .before .before .end .given .1)) in
+    let a = arrays-ok _ (r .heads) (r .«errors_at») _ (came (λ (e : ReadEnd). resOfArrays e (r .heads) (r .«errors_at»)) (c .before .before .before .before .before .before .before .before .before .before .before .read-arrays .ensures) (c .before .before .before .before .before .before .before .before .before .end .given .1)) in
     answer-accepted (reportBody s) (a .reports) _ _ _
-    (body-accepted s _ _ (a .reports) _ _ _ (came resU32 (c .before .before .before .before .before .before .before .before .before .before .before .before .before .before .before .read-count .ensures) (c .before .before .before .before .before .before .before .before .before .before .before .before .before .rn .given .1)) (a .were) (came resU32 (c .before .before .before .before .before .before .before .read-count2 .ensures) (c .before .before .before .before .before .rk .given .1)) (c .before .before .if1 .left))
+    (body-accepted s _ _ (a .reports) _ _ _ (came resOfU32 (c .before .before .before .before .before .before .before .before .before .before .before .before .before .before .before .read-count .ensures) (c .before .before .before .before .before .before .before .before .before .before .before .before .before .rn .given .1)) (a .were) (came resOfU32 (c .before .before .before .before .before .before .before .read-count2 .ensures) (c .before .before .before .before .before .rk .given .1)) (c .before .before .if1 .left))
     (ap accepted (sym (many-length reportAt _ _ _ _ _ (a .were))), a .heads, a .places)
 
 pub read-reports-spec : {M : Type 1} → statement M

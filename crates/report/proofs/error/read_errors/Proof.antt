@@ -1,19 +1,19 @@
 -- `report::error::read_errors` meets its contract. The loop's invariant: the errors passed are allowed, so what is left decides. The measure is
 -- how many are left.
-use Rattle.report.proofs.Runs.{errors-next, errors-none}
-use Rattle.report.specs.Answers.{resError, whyError}
-use Rattle.report.specs.Reports.{errorsEnd}
+use Rattle.report.specs.Answers.{resOfError, whyError}
+use Rattle.report.specs.Reports.{errorAt}
+use Rattle.xdr.proofs.EndLaws.{first-refuses, none-end, others-end}
 use Rattle.xdr.proofs.Steps.{came, handed}
-use Rattle.xdr.specs.Res.{no, then}
+use Rattle.xdr.specs.Res.{no, manyAt, endOf}
 use borrow.Author.Needs.{needs}
 use denote.Ref.{now}
-use mathlib.Core.Path.{_≡_, refl}
+use mathlib.Core.Path.{_≡_, refl, _∙_}
 use native.Mathlib.Omega.{arith}
 use Rattle.report.proofs.error.read_errors.Statement.{statement}
 use Rattle.report.proofs.error.read_errors.Tie as tie
 
 abbrev Inv-loop : tie.InvT-loop
-Inv-loop s n d₀ left₀ d left = errorsEnd n s (d₀ .at) ≡ errorsEnd left s (d .at)
+Inv-loop s n d₀ left₀ d left = endOf (manyAt errorAt n s (d₀ .at)) ≡ endOf (manyAt errorAt left s (d .at))
 
 abbrev μ-loop : tie.MeasureT-loop
 μ-loop s n d₀ left₀ d left = left
@@ -34,10 +34,9 @@ why-error-requires : tie.Need-why-error-requires Inv-loop μ-loop
 why-error-requires c κs = search needs
 
 returns : tie.Need-returns Inv-loop μ-loop
-unfolding then
 returns c =
     let l = c .before .before .before .before .before .loop in
-    rw (l .inv, errors-next (l .left) (now (c .before .before .before .before .before .before .before .args .s)) (l .d .at) (omega arith), handed resError whyError no (c .before .before .before .read-error .ensures) (c .before .enum-told .given .1) (c .why-error .ensures) refl)
+    rw (l .inv, first-refuses errorAt (l .left) (now (c .before .before .before .before .before .before .before .args .s)) (l .d .at) _ (omega arith) (handed resOfError whyError no (c .before .before .before .read-error .ensures) (c .before .enum-told .given .1) (c .why-error .ensures) refl))
 
 sub-left : tie.Need-sub-left Inv-loop μ-loop
 sub-left c = search needs
@@ -46,15 +45,14 @@ loop-less : tie.Need-loop-less Inv-loop μ-loop
 loop-less c = search needs
 
 loop-again : tie.Need-loop-again Inv-loop μ-loop
-unfolding then
 loop-again c =
     let l = c .before .before .before .before .before .loop in
-    rw (l .inv, errors-next (l .left) (now (c .before .before .before .before .before .before .before .args .s)) (l .d .at) (omega arith), came resError (c .before .before .before .read-error .ensures) (c .before .r .given .1))
+    l .inv ∙ others-end errorAt (l .left) (now (c .before .before .before .before .before .before .before .args .s)) (l .d .at) _ _ (omega arith) (came resOfError (c .before .before .before .read-error .ensures) (c .before .r .given .1))
 
 returns-2 : tie.Need-returns-2 Inv-loop μ-loop
 returns-2 c =
     let l = c .before .loop in
-    rw (l .inv, errors-none (l .left) (now (c .before .before .before .args .s)) (l .d .at) (omega arith))
+    rw (l .inv, none-end errorAt (l .left) (now (c .before .before .before .args .s)) (l .d .at) (omega arith))
 
 pub read-errors-spec : {M : Type 1} → statement M
 read-errors-spec =

@@ -3,7 +3,7 @@ use Prim.Native.Nat.{_≤_, _<_}
 use Rattle.base.specs.Answer.{refused}
 use Rattle.base.specs.Refusals.{numberOf}
 use Rattle.report_write.proofs.StoringLaws.{body-stored, fits, list-refused, many-refused, reports-allowed, reports-refused, sizes, too-short, written-accepted, written-refused}
-use Rattle.report_write.specs.Answers.{answerJudged, whyJudged}
+use Rattle.report_write.specs.Answers.{answerOfJudged, whyJudged}
 use Rattle.report_write.specs.Writing.{bodyBytes, counts, recordsFrom}
 use Rattle.xdr.proofs.Steps.{came, handed}
 use borrow.Author.Needs.{needs}
@@ -40,42 +40,42 @@ why-judged-requires c κs = search needs
 returns-3 : tie.Need-returns-3
 returns-3 c =
     let q = sym (sym (c .before .before .before .before .before .total .ensures .0) ∙ c .before .before .before .before .if2 .left) in
-    let j = handed answerJudged whyJudged refused (c .before .before .before .judge .ensures) (c .before .enum-told2 .given .1) (c .why-judged .ensures) refl in
+    let j = handed answerOfJudged whyJudged refused (c .before .before .before .judge .ensures) (c .before .enum-told2 .given .1) (c .why-judged .ensures) refl in
     written-refused (now (c .before .before .before .before .before .before .before .before .before .args .out)) _ (numberOf (c .why-judged .result))
     (reports-refused (c .before .before .before .before .before .before .before .before .before .args .count) (c .before .before .before .before .before .before .before .before .before .args .heads) (c .before .before .before .before .before .before .before .before .before .args .list-length) (now (c .before .before .before .before .before .before .before .before .before .args .errors)) (length (now (c .before .before .before .before .before .before .before .before .before .args .out))) _ (c .before .before .before .before .before .before .if1 .left) q j)
 
 mul-size : tie.Need-mul-size
 mul-size c =
     let q = sym (sym (c .before .before .before .before .total .ensures .0) ∙ c .before .before .before .if2 .left) in
-    let j = came answerJudged (c .before .before .judge .ensures) (c .enum-told .given .1) in
+    let j = came answerOfJudged (c .before .before .judge .ensures) (c .enum-told .given .1) in
     let z = sizes (c .before .before .before .before .before .before .before .before .args .count) (c .before .before .before .before .before .before .before .before .args .heads) (c .before .before .before .before .before .before .before .before .args .list-length) (now (c .before .before .before .before .before .before .before .before .args .errors)) (c .before .before .before .before .before .if1 .left) (c .before .before .before .before .before .before .before .before .good .1 .0 .1 .0 .1) q (c .before .before .before .before .total .ensures .1) j in
     omega (arith, z .few, c .before .before .before .before .before .if1 .left)
 
 add-size : tie.Need-add-size
 add-size c =
     let q = sym (sym (c .before .before .before .before .total .ensures .0) ∙ c .before .before .before .if2 .left) in
-    let j = came answerJudged (c .before .before .judge .ensures) (c .enum-told .given .1) in
+    let j = came answerOfJudged (c .before .before .judge .ensures) (c .enum-told .given .1) in
     let z = sizes (c .before .before .before .before .before .before .before .before .args .count) (c .before .before .before .before .before .before .before .before .args .heads) (c .before .before .before .before .before .before .before .before .args .list-length) (now (c .before .before .before .before .before .before .before .before .args .errors)) (c .before .before .before .before .before .if1 .left) (c .before .before .before .before .before .before .before .before .good .1 .0 .1 .0 .1) q (c .before .before .before .before .total .ensures .1) j in
     omega (arith, z .few, c .before .before .before .before .before .if1 .left)
 
 mul-size-2 : tie.Need-mul-size-2
 mul-size-2 c =
     let q = sym (sym (c .before .before .before .before .total .ensures .0) ∙ c .before .before .before .if2 .left) in
-    let j = came answerJudged (c .before .before .judge .ensures) (c .enum-told .given .1) in
+    let j = came answerOfJudged (c .before .before .judge .ensures) (c .enum-told .given .1) in
     let z = sizes (c .before .before .before .before .before .before .before .before .args .count) (c .before .before .before .before .before .before .before .before .args .heads) (c .before .before .before .before .before .before .before .before .args .list-length) (now (c .before .before .before .before .before .before .before .before .args .errors)) (c .before .before .before .before .before .if1 .left) (c .before .before .before .before .before .before .before .before .good .1 .0 .1 .0 .1) q (c .before .before .before .before .total .ensures .1) j in
     omega (arith, z .few, c .before .before .before .before .before .if1 .left)
 
 add-size-2 : tie.Need-add-size-2
 add-size-2 c =
     let q = sym (sym (c .before .before .before .before .total .ensures .0) ∙ c .before .before .before .if2 .left) in
-    let j = came answerJudged (c .before .before .judge .ensures) (c .enum-told .given .1) in
+    let j = came answerOfJudged (c .before .before .judge .ensures) (c .enum-told .given .1) in
     let z = sizes (c .before .before .before .before .before .before .before .before .args .count) (c .before .before .before .before .before .before .before .before .args .heads) (c .before .before .before .before .before .before .before .before .args .list-length) (now (c .before .before .before .before .before .before .before .before .args .errors)) (c .before .before .before .before .before .if1 .left) (c .before .before .before .before .before .before .before .before .good .1 .0 .1 .0 .1) q (c .before .before .before .before .total .ensures .1) j in
     omega (arith, z .few, c .before .before .before .before .before .if1 .left)
 
 returns-4 : tie.Need-returns-4
 returns-4 c =
     let q = sym (sym (c .before .before .before .before .before .total .ensures .0) ∙ c .before .before .before .before .if2 .left) in
-    let j = came answerJudged (c .before .before .before .judge .ensures) (c .before .enum-told .given .1) in
+    let j = came answerOfJudged (c .before .before .before .judge .ensures) (c .before .enum-told .given .1) in
     let z = sizes (c .before .before .before .before .before .before .before .before .before .args .count) (c .before .before .before .before .before .before .before .before .before .args .heads) (c .before .before .before .before .before .before .before .before .before .args .list-length) (now (c .before .before .before .before .before .before .before .before .before .args .errors)) (c .before .before .before .before .before .before .if1 .left) (c .before .before .before .before .before .before .before .before .before .good .1 .0 .1 .0 .1) q (c .before .before .before .before .before .total .ensures .1) j in
     let e = bodyBytes (take (c .before .before .before .before .before .before .before .before .before .args .count) (c .before .before .before .before .before .before .before .before .before .args .heads)) (recordsFrom (counts (take (c .before .before .before .before .before .before .before .before .before .args .count) (c .before .before .before .before .before .before .before .before .before .args .heads))) 0 (now (c .before .before .before .before .before .before .before .before .before .args .errors))) in
     let s : length (now (c .before .before .before .before .before .before .before .before .before .args .out)) < length e = omega (arith, z .body, c .if3 .taken) in
@@ -88,7 +88,7 @@ put-be4-requires c κs = search needs
 put-reports-requires : tie.Need-put-reports-requires
 put-reports-requires c κs =
     let q = sym (sym (c .before .before .before .before .before .before .before .before .before .before .total .ensures .0) ∙ c .before .before .before .before .before .before .before .before .before .if2 .left) in
-    let j = came answerJudged (c .before .before .before .before .before .before .before .before .judge .ensures) (c .before .before .before .before .before .before .enum-told .given .1) in
+    let j = came answerOfJudged (c .before .before .before .before .before .before .before .before .judge .ensures) (c .before .before .before .before .before .before .enum-told .given .1) in
     let z = sizes (c .before .before .before .before .before .before .before .before .before .before .before .before .before .before .args .count) (c .before .before .before .before .before .before .before .before .before .before .before .before .before .before .args .heads) (c .before .before .before .before .before .before .before .before .before .before .before .before .before .before .args .list-length) (now (c .before .before .before .before .before .before .before .before .before .before .before .before .before .before .args .errors)) (c .before .before .before .before .before .before .before .before .before .before .before .if1 .left) (c .before .before .before .before .before .before .before .before .before .before .before .before .before .before .good .1 .0 .1 .0 .1) q (c .before .before .before .before .before .before .before .before .before .before .total .ensures .1) j in
     (c .before .before .before .before .before .before .before .before .before .before .before .if1 .left, omega (arith, c .before .before .before .put-be4 .kept .0, z .few, z .body, q, c .before .before .before .before .before .if3 .left), z .inside)
 
@@ -104,7 +104,7 @@ same-length c = c .before .before .put-be42 .kept .0 ∙ c .before .before .befo
 returns-5 : tie.Need-returns-5
 returns-5 c =
     let q = sym (sym (c .before .before .before .before .before .before .before .before .before .before .before .before .before .before .before .before .before .total .ensures .0) ∙ c .before .before .before .before .before .before .before .before .before .before .before .before .before .before .before .before .if2 .left) in
-    let j = came answerJudged (c .before .before .before .before .before .before .before .before .before .before .before .before .before .before .before .judge .ensures) (c .before .before .before .before .before .before .before .before .before .before .before .before .before .enum-told .given .1) in
+    let j = came answerOfJudged (c .before .before .before .before .before .before .before .before .before .before .before .before .before .before .before .judge .ensures) (c .before .before .before .before .before .before .before .before .before .before .before .before .before .enum-told .given .1) in
     let z = sizes (c .before .before .before .before .before .before .before .before .before .before .before .before .before .before .before .before .before .before .before .before .before .args .count) (c .before .before .before .before .before .before .before .before .before .before .before .before .before .before .before .before .before .before .before .before .before .args .heads) (c .before .before .before .before .before .before .before .before .before .before .before .before .before .before .before .before .before .before .before .before .before .args .list-length) (now (c .before .before .before .before .before .before .before .before .before .before .before .before .before .before .before .before .before .before .before .before .before .args .errors)) (c .before .before .before .before .before .before .before .before .before .before .before .before .before .before .before .before .before .before .if1 .left) (c .before .before .before .before .before .before .before .before .before .before .before .before .before .before .before .before .before .before .before .before .before .good .1 .0 .1 .0 .1) q (c .before .before .before .before .before .before .before .before .before .before .before .before .before .before .before .before .before .total .ensures .1) j in
     let l = now (c .before .before .before .before .before .before .before .before .before .before .before .before .before .before .before .before .before .before .before .before .before .args .out) in
     let hs = take (c .before .before .before .before .before .before .before .before .before .before .before .before .before .before .before .before .before .before .before .before .before .args .count) (c .before .before .before .before .before .before .before .before .before .before .before .before .before .before .before .before .before .before .before .before .before .args .heads) in

@@ -3,7 +3,7 @@
 use Prim.Native.Nat.{_+_, _-_, _*_, _≤_, _<_}
 use Rattle.base.specs.Answer.{given}
 use Rattle.report_write.proofs.RecordLaws.{allowed, judged-next, judged-none}
-use Rattle.report_write.specs.Answers.{answerJudged}
+use Rattle.report_write.specs.Answers.{answerOfJudged}
 use Rattle.report_write.specs.Writing.{counts, judged, recordsFrom}
 use Rattle.xdr.proofs.Steps.{came}
 use borrow.Author.Needs.{needs}
@@ -53,7 +53,7 @@ returns c =
     let hs = c .before .before .before .before .before .before .before .before .args .t1 in
     let h : l .i < length hs = omega arith in
     let m : 0 < n - l .i = omega arith in
-    rw (l .inv .4, judged-next hs (l .i) (n - l .i) (l .k) (now (c .before .before .before .before .before .before .before .before .args .errors)) h m, came answerJudged (c .before .before .judge-one .ensures) (c .enum-told2 .given .1), c .enum-told2 .given .1)
+    rw (l .inv .4, judged-next hs (l .i) (n - l .i) (l .k) (now (c .before .before .before .before .before .before .before .before .args .errors)) h m, came answerOfJudged (c .before .before .judge-one .ensures) (c .enum-told2 .given .1), c .enum-told2 .given .1)
 
 add-k : tie.Need-add-k Inv-loop μ-loop
 add-k c = search needs
@@ -73,7 +73,7 @@ loop-again c =
     let e : n - (l .i + 1) ≡ n - l .i - 1 = omega arith in
     let h : l .i < length hs = omega arith in
     let m : 0 < n - l .i = omega arith in
-    let k = came answerJudged (c .before .before .judge-one .ensures) (c .enum-told .given .1) in (
+    let k = came answerOfJudged (c .before .before .judge-one .ensures) (c .enum-told .given .1) in (
       omega arith,
       l .inv .1,
       omega (arith, l .inv .2, allowed _ _ k .few),

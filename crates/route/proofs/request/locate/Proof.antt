@@ -3,7 +3,7 @@ use Rattle.base.specs.Answer.{refused}
 use Rattle.base.specs.Ranges.{answerOfLast, whyLast}
 use Rattle.route.proofs.RouteLaws.{is-served, is-unsound, not-served, range-refused}
 use Rattle.route.proofs.ServedLaws.{served-limits}
-use Rattle.route.specs.Answers.{servingAnswer, whyServing}
+use Rattle.route.specs.Answers.{answerOfServing, whyServing}
 use Rattle.route.specs.declared.rights.ServingAnswer.{ServingAnswer}
 use Rattle.xdr.proofs.Steps.{came, handed}
 use borrow.Author.Needs.{needs}
@@ -57,7 +57,7 @@ returns-3 c =
     let starts = c .before .before .before .find-serving .result .starts in
     sym (not-served (a .write) (a .t) (now (a .store)) (a .offset) (a .len) _ _ (sym (c .before .before .before .before .before .before .before .before .sound .ensures) ∙ not-false _ (c .before .before .before .before .before .before .before .if1 .left))
     (came answerOfLast (c .before .before .before .before .before .before .request-last .ensures) (c .before .before .before .before .enum-told .given .1))
-    (handed (λ (x : ServingAnswer). servingAnswer x starts) whyServing refused (c .before .before .before .find-serving .ensures) (c .before .enum-told3 .given .1) (c .why-serving .ensures) refl))
+    (handed (λ (x : ServingAnswer). answerOfServing x starts) whyServing refused (c .before .before .before .find-serving .ensures) (c .before .enum-told3 .given .1) (c .why-serving .ensures) refl))
 
 piece-at-requires : tie.Need-piece-at-requires
 piece-at-requires c κs =
@@ -65,7 +65,7 @@ piece-at-requires c κs =
     let starts = c .before .before .before .before .find-serving .result .starts in
     served-limits (a .write) (a .t) (now (a .store)) (a .offset) (a .len) _ _
     (came answerOfLast (c .before .before .before .before .before .before .before .request-last .ensures) (c .before .before .before .before .before .enum-told .given .1))
-    (came (λ (x : ServingAnswer). servingAnswer x starts) (c .before .before .before .before .find-serving .ensures) (c .before .before .a .given .1))
+    (came (λ (x : ServingAnswer). answerOfServing x starts) (c .before .before .before .before .find-serving .ensures) (c .before .before .a .given .1))
 
 returns-4 : tie.Need-returns-4
 returns-4 c =
@@ -73,7 +73,7 @@ returns-4 c =
     let starts = c .before .before .before .before .before .find-serving .result .starts in
     is-served (a .write) (a .t) (now (a .store)) (a .offset) (a .len) _ _ _ (sym (c .before .before .before .before .before .before .before .before .before .before .sound .ensures) ∙ not-false _ (c .before .before .before .before .before .before .before .before .before .if1 .left))
     (came answerOfLast (c .before .before .before .before .before .before .before .before .request-last .ensures) (c .before .before .before .before .before .before .enum-told .given .1))
-    (came (λ (x : ServingAnswer). servingAnswer x starts) (c .before .before .before .before .before .find-serving .ensures) (c .before .before .before .a .given .1))
+    (came (λ (x : ServingAnswer). answerOfServing x starts) (c .before .before .before .before .before .find-serving .ensures) (c .before .before .before .a .given .1))
     (c .piece-at .ensures)
 
 pub locate-spec : {M : Type 1} → statement M

@@ -1,6 +1,6 @@
 -- `route::rights::served_by` meets its contract: the layout body in the slot is read, or refused.
 use Rattle.base.specs.Answer.{refused}
-use Rattle.layout.specs.Answers.{layoutAnswer, whyLayout}
+use Rattle.layout.specs.Answers.{answerOfLayout, whyLayout}
 use Rattle.layout.specs.declared.body.LayoutAnswer.{LayoutAnswer}
 use Rattle.route.proofs.RouteLaws.{layout-in, layout-read, layout-refused, refused-serving}
 use Rattle.xdr.proofs.Steps.{came, handed}
@@ -35,12 +35,12 @@ returns : tie.Need-returns
 returns c =
     let e = layout-in (now (c .before .before .before .before .before .before .before .before .args .store)) _ _ (c .before .before .before .before .before .before .before .before .args .g .slot .0) (c .before .before .before .before .before .before .slot-bytes .ensures) (c .before .before .before .before .before .slot-body .ensures) in
     refused-serving _ _ (c .refused .ensures)
-    ∙ sym (layout-refused (now (c .before .before .before .before .before .before .before .before .args .store)) (c .before .before .before .before .before .before .before .before .args .iomode) _ _ (handed (λ (x : LayoutAnswer). layoutAnswer x (c .before .before .before .before .read-layout .result .starts)) whyLayout refused (c .before .before .before .before .read-layout .ensures .0 ∙ e) (c .before .before .enum-told .given .1) (c .before .why-layout .ensures) refl))
+    ∙ sym (layout-refused (now (c .before .before .before .before .before .before .before .before .args .store)) (c .before .before .before .before .before .before .before .before .args .iomode) _ _ (handed (λ (x : LayoutAnswer). answerOfLayout x (c .before .before .before .before .read-layout .result .starts)) whyLayout refused (c .before .before .before .before .read-layout .ensures .0 ∙ e) (c .before .before .enum-told .given .1) (c .before .why-layout .ensures) refl))
 
 returns-2 : tie.Need-returns-2
 returns-2 c =
     let e = layout-in (now (c .before .before .before .before .before .before .before .before .args .store)) _ _ (c .before .before .before .before .before .before .before .before .args .g .slot .0) (c .before .before .before .before .before .before .slot-bytes .ensures) (c .before .before .before .before .before .slot-body .ensures) in
-    sym (layout-read (now (c .before .before .before .before .before .before .before .before .args .store)) (c .before .before .before .before .before .before .before .before .args .iomode) _ _ (came (λ (x : LayoutAnswer). layoutAnswer x (c .before .before .before .before .read-layout .result .starts)) (c .before .before .before .before .read-layout .ensures .0 ∙ e) (c .before .before .a .given .1)))
+    sym (layout-read (now (c .before .before .before .before .before .before .before .before .args .store)) (c .before .before .before .before .before .before .before .before .args .iomode) _ _ (came (λ (x : LayoutAnswer). answerOfLayout x (c .before .before .before .before .read-layout .result .starts)) (c .before .before .before .before .read-layout .ensures .0 ∙ e) (c .before .before .a .given .1)))
 
 pub served-by-spec : {M : Type 1} → statement M
 served-by-spec =

@@ -1,10 +1,10 @@
 -- `server::handles::skip_handles` meets its contract. The loop's invariant: what is left to skip ends where all of it does.
-use Rattle.server.proofs.HandleLaws.{handles-next, handles-none, handles-refused}
-use Rattle.server.specs.Answers.{endOf}
 use Rattle.server.specs.Servers.{handlesAt}
+use Rattle.xdr.proofs.EndLaws.{first-refuses, none-end, others-end}
 use Rattle.xdr.proofs.Steps.{came, handed}
-use Rattle.xdr.specs.Answers.{resPart, whyPart}
-use Rattle.xdr.specs.Res.{no}
+use Rattle.xdr.specs.Answers.{resOfPart, whyPart}
+use Rattle.xdr.specs.Items.{opaqueAt}
+use Rattle.xdr.specs.Res.{no, endOf}
 use borrow.Author.Needs.{needs}
 use denote.Ref.{now}
 use mathlib.Core.Path.{_≡_, refl, _∙_}
@@ -34,9 +34,10 @@ why-part-requires : tie.Need-why-part-requires Inv-loop μ-loop
 why-part-requires c κs = search needs
 
 returns : tie.Need-returns Inv-loop μ-loop
+unfolding handlesAt
 returns c =
     let l = c .before .before .before .before .before .loop in
-    rw (l .inv, handles-refused (l .left) (now (c .before .before .before .before .before .before .before .args .s)) (l .d .at) _ (omega arith) (handed resPart whyPart no (c .before .before .before .read-opaque .ensures) (c .before .enum-told .given .1) (c .why-part .ensures) refl))
+    rw (l .inv, first-refuses (opaqueAt 1 128) (l .left) (now (c .before .before .before .before .before .before .before .args .s)) (l .d .at) _ (omega arith) (handed resOfPart whyPart no (c .before .before .before .read-opaque .ensures) (c .before .enum-told .given .1) (c .why-part .ensures) refl))
 
 sub-left : tie.Need-sub-left Inv-loop μ-loop
 sub-left c = search needs
@@ -45,14 +46,16 @@ loop-less : tie.Need-loop-less Inv-loop μ-loop
 loop-less c = search needs
 
 loop-again : tie.Need-loop-again Inv-loop μ-loop
+unfolding handlesAt
 loop-again c =
     let l = c .before .before .before .before .before .loop in
-    l .inv ∙ handles-next (l .left) (now (c .before .before .before .before .before .before .before .args .s)) (l .d .at) _ _ (omega arith) (came resPart (c .before .before .before .read-opaque .ensures) (c .before .r .given .1))
+    l .inv ∙ others-end (opaqueAt 1 128) (l .left) (now (c .before .before .before .before .before .before .before .args .s)) (l .d .at) _ _ (omega arith) (came resOfPart (c .before .before .before .read-opaque .ensures) (c .before .r .given .1))
 
 returns-2 : tie.Need-returns-2 Inv-loop μ-loop
+unfolding handlesAt
 returns-2 c =
     let l = c .before .loop in
-    rw (l .inv, handles-none (l .left) (now (c .before .before .before .args .s)) (l .d .at) (omega arith))
+    rw (l .inv, none-end (opaqueAt 1 128) (l .left) (now (c .before .before .before .args .s)) (l .d .at) (omega arith))
 
 pub skip-handles-spec : {M : Type 1} → statement M
 skip-handles-spec =

@@ -1,5 +1,5 @@
 -- `soundness::slots::is_accepted` meets its contract: the answer of the layout body's reader.
-use Rattle.layout.specs.Answers.{layoutAnswer}
+use Rattle.layout.specs.Answers.{answerOfLayout}
 use Rattle.layout.specs.declared.body.LayoutAnswer.{LayoutAnswer}
 use Rattle.xdr.proofs.Steps.{came}
 use borrow.Author.Needs.{needs}
@@ -16,10 +16,10 @@ enum-told-2 : tie.Need-enum-told-2
 enum-told-2 c = search needs
 
 returns : tie.Need-returns
-returns c = rw (came (λ (a : LayoutAnswer). layoutAnswer a (c .before .before .read-layout .result .starts)) (c .before .before .read-layout .ensures .0) (c .enum-told .given .1))
+returns c = rw (came (λ (a : LayoutAnswer). answerOfLayout a (c .before .before .read-layout .result .starts)) (c .before .before .read-layout .ensures .0) (c .enum-told .given .1))
 
 returns-2 : tie.Need-returns-2
-returns-2 c = rw (came (λ (a : LayoutAnswer). layoutAnswer a (c .before .before .read-layout .result .starts)) (c .before .before .read-layout .ensures .0) (c .enum-told2 .given .1))
+returns-2 c = rw (came (λ (a : LayoutAnswer). answerOfLayout a (c .before .before .read-layout .result .starts)) (c .before .before .read-layout .ensures .0) (c .enum-told2 .given .1))
 
 pub is-accepted-spec : {M : Type 1} → statement M
 is-accepted-spec =

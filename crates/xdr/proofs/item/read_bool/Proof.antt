@@ -1,7 +1,7 @@
 -- `xdr::item::read_bool` meets its contract: four bytes, then the value.
 use Rattle.base.specs.Answer.{pick}
 use Rattle.xdr.proofs.Steps.{came, handed}
-use Rattle.xdr.specs.Answers.{resU32, whyU32}
+use Rattle.xdr.specs.Answers.{resOfU32, whyU32}
 use Rattle.xdr.specs.Items.{boolAt}
 use Rattle.xdr.specs.Res.{no, then}
 use borrow.Author.Needs.{needs}
@@ -24,15 +24,15 @@ why-u32-requires c κs = search needs
 
 returns : tie.Need-returns
 unfolding boolAt then
-returns c = rw (handed resU32 whyU32 no (c .before .before .before .read-u32 .ensures) (c .before .enum-told .given .1) (c .why-u32 .ensures) refl)
+returns c = rw (handed resOfU32 whyU32 no (c .before .before .before .read-u32 .ensures) (c .before .enum-told .given .1) (c .why-u32 .ensures) refl)
 
 returns-2 : tie.Need-returns-2
 unfolding boolAt then pick
-returns-2 c = rw (came resU32 (c .before .before .before .before .read-u32 .ensures) (c .before .before .r .given .1), lt-leb _ _ (c .if1 .taken))
+returns-2 c = rw (came resOfU32 (c .before .before .before .before .read-u32 .ensures) (c .before .before .r .given .1), lt-leb _ _ (c .if1 .taken))
 
 returns-3 : tie.Need-returns-3
 unfolding boolAt then pick
-returns-3 c = rw (came resU32 (c .before .before .before .before .read-u32 .ensures) (c .before .before .r .given .1), le-leb _ _ (c .if1 .left))
+returns-3 c = rw (came resOfU32 (c .before .before .before .before .read-u32 .ensures) (c .before .before .r .given .1), le-leb _ _ (c .if1 .left))
 
 pub read-bool-spec : {M : Type 1} → statement M
 read-bool-spec =

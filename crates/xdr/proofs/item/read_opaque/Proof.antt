@@ -1,6 +1,6 @@
 -- `xdr::item::read_opaque` meets its contract: the length, then the bytes.
 use Rattle.xdr.proofs.Steps.{came, handed}
-use Rattle.xdr.specs.Answers.{resU32, whyU32}
+use Rattle.xdr.specs.Answers.{resOfU32, whyU32}
 use Rattle.xdr.specs.Items.{opaqueAt}
 use Rattle.xdr.specs.Res.{no, then}
 use borrow.Author.Needs.{needs}
@@ -22,7 +22,7 @@ why-u32-requires c κs = search needs
 
 returns : tie.Need-returns
 unfolding opaqueAt then
-returns c = rw (handed resU32 whyU32 no (c .before .before .before .read-count .ensures) (c .before .enum-told .given .1) (c .why-u32 .ensures) refl)
+returns c = rw (handed resOfU32 whyU32 no (c .before .before .before .read-count .ensures) (c .before .enum-told .given .1) (c .why-u32 .ensures) refl)
 
 cast-read-bytes : tie.Need-cast-read-bytes
 cast-read-bytes c = search needs
@@ -32,7 +32,7 @@ read-bytes-requires c κs = search needs
 
 returns-2 : tie.Need-returns-2
 unfolding opaqueAt then
-returns-2 c = rw (came resU32 (c .before .before .before .before .read-count .ensures) (c .before .before .r .given .1)) (c .read-bytes .ensures)
+returns-2 c = rw (came resOfU32 (c .before .before .before .before .read-count .ensures) (c .before .before .r .given .1)) (c .read-bytes .ensures)
 
 pub read-opaque-spec : {M : Type 1} → statement M
 read-opaque-spec =

@@ -1,0 +1,43 @@
+-- What holds of tests that were passed, and of answers: what an accepted one went through.
+use Prim.Native.Nat.{ℕ}
+use mathlib.Core.Path.{_≡_, refl}
+use mathlib.Core.Bool.{Bool, true, false, _&&_, false≢true}
+use native.Mathlib.Omega.{arith}
+use Rattle.base.specs.Answer.{Answer, accepted, refused, given, pick}
+
+pub both : (a b : Bool) → (a && b) ≡ true → (a ≡ true) × (b ≡ true)
+both true b h = (refl, h)
+both false b h = absurd (false≢true h)
+
+-- ---- an answer is accepted or refused, with one value or number
+
+pub never-accepted : {A B : Type 0} (n : ℕ) (a : A) → refused n ≡ accepted a → B
+never-accepted n a e = let z : _≡_ {A = ℕ} 0 1 = cc in absurd (omega arith)
+
+pub never-refused : {A B : Type 0} (a : A) (n : ℕ) → accepted a ≡ refused n → B
+never-refused a n e = let z : _≡_ {A = ℕ} 0 1 = cc in absurd (omega arith)
+
+pub same-answer : {A : Type 0} {a b : A} → accepted a ≡ accepted b → a ≡ b
+same-answer e = cc
+
+pub same-refusal : {A : Type 0} (n k : ℕ) → _≡_ {A = Answer A} (refused n) (refused k) → n ≡ k
+same-refusal n k e = cc
+
+-- ---- what an accepted answer went through
+
+-- the question before it, and the one behind that
+pub record Gave {A B : Type 0} (x : Answer A) (f : A → Answer B) (b : B) : Type 0 where
+  pub value : A
+  pub first : x ≡ accepted value
+  pub rest : f value ≡ accepted b
+
+pub gave : {A B : Type 0} (x : Answer A) (f : A → Answer B) (b : B) → given x f ≡ accepted b → Gave x f b
+unfolding given
+gave (accepted a) f b e = record { value = a; first = refl; rest = e }
+gave (refused n) f b e = never-accepted n b e
+
+-- the test that it passed
+pub pick-accepted : {A : Type 0} (t : Bool) (x : Answer A) (n : ℕ) (a : A) → pick t x (refused n) ≡ accepted a → (t ≡ true) × (x ≡ accepted a)
+unfolding pick
+pick-accepted true x n a h = (refl, h)
+pick-accepted false x n a h = never-accepted n a h

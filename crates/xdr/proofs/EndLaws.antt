@@ -1,0 +1,45 @@
+-- Laws of the place behind an item, and behind several of one kind.
+use Prim.Native.Nat.{ℕ, zero, suc, _-_, _<_}
+use mathlib.Core.Path.{_≡_, refl}
+use mathlib.Core.List.{List, _∷_}
+use native.Mathlib.Omega.{arith}
+use Rattle.xdr.specs.Res.{Res, ok, no, then, manyAt, endOf}
+
+-- what follows goes by the place alone
+pub end-then : {A B : Type 0} (x : Res A) (f : ℕ → Res B) (p : ℕ) → endOf x ≡ ok tt p → then x (λ a q. f q) ≡ f p
+unfolding endOf then
+end-then (ok a q) f p e = let h : q ≡ p = cc in rw h
+end-then (no n) f p e = let z : _≡_ {A = ℕ} 0 1 = cc in absurd (omega arith)
+
+pub end-refused : {A B : Type 0} (x : Res A) (f : A → ℕ → Res B) (n : ℕ) → endOf x ≡ no n → then x f ≡ no n
+unfolding endOf then
+end-refused (ok a q) f n e = let z : _≡_ {A = ℕ} 0 1 = cc in absurd (omega arith)
+end-refused (no m) f n e = let h : m ≡ n = cc in rw h
+
+pub end-goes-on : {A B : Type 0} (x : Res A) (f : ℕ → Res B) → then (endOf x) (λ u q. f q) ≡ then x (λ a q. f q)
+unfolding endOf then
+end-goes-on (ok a q) f = refl
+end-goes-on (no n) f = refl
+
+end-kept : {A B : Type 0} (x : Res A) (f : A → B) → endOf (then x λ a q. ok (f a) q) ≡ endOf x
+unfolding endOf then
+end-kept (ok a q) f = refl
+end-kept (no n) f = refl
+
+-- ---- several items, the first of them apart
+
+module _ {A : Type 0} (item : List ℕ → ℕ → Res A) where
+  pub none-end : (n : ℕ) (s : List ℕ) (at : ℕ) → n ≡ 0 → endOf (manyAt item n s at) ≡ ok tt at
+  unfolding manyAt endOf
+  none-end n s at h = rw h
+
+  pub first-refuses : (n : ℕ) (s : List ℕ) (at k : ℕ) → 0 < n → item s at ≡ no k → endOf (manyAt item n s at) ≡ no k
+  unfolding manyAt then endOf
+  first-refuses zero s at k h e = absurd (omega arith)
+  first-refuses (suc n) s at k h e = rw e
+
+  pub others-end : (n : ℕ) (s : List ℕ) (at : ℕ) (v : A) (p : ℕ) → 0 < n → item s at ≡ ok v p
+      → endOf (manyAt item n s at) ≡ endOf (manyAt item (n - 1) s p)
+  unfolding manyAt then
+  others-end zero s at v p h e = absurd (omega arith)
+  others-end (suc n) s at v p h e = let f : suc n - 1 ≡ n = omega arith in rw (e, f) (end-kept (manyAt item n s p) (λ rest. v ∷ rest))
