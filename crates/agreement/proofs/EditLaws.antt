@@ -8,6 +8,7 @@ use borrow.Author.Tests.{le-leb, leb-true, leb-false, lt-ltb, le-ltb}
 use lib.Dec.{leb, ltb}
 use lib.ListN.{length}
 use Rattle.base.specs.Answer.{pick}
+use Rattle.base.proofs.AnswerLaws.{pick-true}
 use Rattle.segments.specs.declared.Segment.{Segment}
 use Rattle.segments.specs.declared.Segments.{Segments}
 use Rattle.segments.specs.Segments.{Mode, READ, RW, actsOn, inPlaces}
@@ -33,10 +34,6 @@ too-many n = go (leb n 32) refl
     go : (b : Bool) → leb n 32 ≡ b → ltb 32 n ≡ not b
     go true e = le-ltb 32 n (leb-true n 32 e)
     go false e = lt-ltb 32 n (let h = leb-false n 32 e in omega arith)
-
-pick-true : {A : Type 0} (b : Bool) (x y : A) → b ≡ true → pick b x y ≡ x
-unfolding pick
-pick-true b x y e = rw e
 
 module _ (N : ℕ) (M : Model) (o : Order) (c : Change) (rising : o .first ≤ o .last) (ends : o .last ≤ N)
     (few : (m : Mode) → length (segmentsIn N M m) ≤ 32)

@@ -2,7 +2,7 @@
 use Prim.Native.Nat.{ℕ, suc, _≤_}
 use mathlib.Core.Path.{_≡_, refl, sym, ap, _∙_}
 use mathlib.Core.Logic.{_⊎_, ⊎-elim}
-use mathlib.Core.Bool.{Bool, true, false, not, _&&_, false≢true}
+use mathlib.Core.Bool.{Bool, true, false, not, _&&_, false≢true, and-false}
 use mathlib.Core.List.{List, []}
 use borrow.Author.Tests.{eq-eqb, ne-eqb}
 use lib.Dec.{eqb}
@@ -44,10 +44,6 @@ never-met N o test M h =
     let one : (m : Mode) → anyBelow (λ x. covers o m x && test (M .right m x)) (suc N) ≡ false =
     λ m. any-none (λ x. covers o m x && test (M .right m x)) (suc N) (λ x k. rw (h (M .right m x)) (and-false (covers o m x))) in
     rw (one READ, one RW)
-  where
-    and-false : (a : Bool) → (a && false) ≡ false
-    and-false true = refl
-    and-false false = refl
 
 held-shown : (ss : List Slot) (r : ByteRight) → satisfies Held (withSlot ss r) ≡ isHeld r
 held-shown ss none = refl

@@ -9,6 +9,14 @@ pub both : (a b : Bool) → (a && b) ≡ true → (a ≡ true) × (b ≡ true)
 both true b h = (refl, h)
 both false b h = absurd (false≢true h)
 
+pub pick-true : {A : Type 0} (t : Bool) (a b : A) → t ≡ true → pick t a b ≡ a
+unfolding pick
+pick-true t a b e = rw e
+
+pub pick-false : {A : Type 0} (t : Bool) (a b : A) → t ≡ false → pick t a b ≡ b
+unfolding pick
+pick-false t a b e = rw e
+
 -- ---- an answer is accepted or refused, with one value or number
 
 pub never-accepted : {A B : Type 0} (n : ℕ) (a : A) → refused n ≡ accepted a → B

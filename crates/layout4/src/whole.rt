@@ -1,4 +1,5 @@
 // A layout4 as a whole. Its body is read in its own length, so that a fault in it comes before its padding.
+use crate::frame::Frame;
 use crate::frame::ReadFrame;
 use crate::frame::read_frame;
 use crate::frame::why_frame;
@@ -46,6 +47,20 @@ fn refused(e: Refusal) -> Layout4Read
     }
 }
 
+fn layout4_in(frame: Frame, body: Part) -> Layout4
+    ensures { λ r. ⌜ r ≡ record { offset = frame .range .offset; length = frame .range .length; last = frame .range .last; iomode = frame .iomode; body = body } ⌝ }
+{
+    let range = frame.range;
+    let iomode = frame.iomode;
+    Layout4 {
+        offset: range.offset,
+        length: range.length,
+        last: range.last,
+        iomode,
+        body,
+    }
+}
+
 // Whether n bytes and their padding stand at a place.
 fn enough(s: &[u8], at: usize, n: u32) -> bool
     ensures { λ r. ⌜ r ≡ leb (at + n + padding n) (length (now (s .entry))) ⌝ }
@@ -84,19 +99,9 @@ pub fn read_layout4(s: &[u8]) -> Layout4Read
         return refused(Refusal::BytesLeftOver);
     }
     let starts = body.starts;
-    let range = frame.range;
-    let iomode = frame.iomode;
+    let l = layout4_in(frame, part);
     Layout4Read {
-        answer: Layout4Answer::Value(
-            Layout4 {
-                offset: range.offset,
-                length: range.length,
-                last: range.last,
-                iomode,
-                body: part,
-            },
-            summary,
-        ),
+        answer: Layout4Answer::Value(l, summary),
         starts,
     }
 }

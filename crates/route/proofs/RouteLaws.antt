@@ -39,14 +39,6 @@ pub grant-none : (x : ℕ) (g : Segments) (k : ℕ) → length (listOf g) ≤ k 
 unfolding grantAt
 grant-none x g k h = ap (λ (l : List Segment). grantAt l x) (drop-of-length-le (listOf g) h)
 
-pub pick-true : {A : Type 0} (t : Bool) (a b : A) → t ≡ true → pick t a b ≡ a
-unfolding pick
-pick-true t a b e = rw e
-
-pub pick-false : {A : Type 0} (t : Bool) (a b : A) → t ≡ false → pick t a b ≡ b
-unfolding pick
-pick-false t a b e = rw e
-
 -- ---- what serves
 
 pub refused-serving : (r : Serving) (e : Refusal) → r ≡ record { answer = serving.Refused e; starts = replicate 128 0 }

@@ -64,13 +64,3 @@ unfolding slotsFrom noTwoAlike
 alike-none t store n i h =
     let e : n - i ≡ 0 = omega arith in
     rw e
-
--- ---- two tests in the other order
-
-pub and-false : (b : Bool) → (b && false) ≡ false
-and-false true = refl
-and-false false = refl
-
-pub and-true : (b : Bool) → (b && true) ≡ b
-and-true true = refl
-and-true false = refl

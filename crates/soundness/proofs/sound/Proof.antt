@@ -1,8 +1,8 @@
 -- `soundness::sound` meets its contract, test by test.
 use Rattle.reference.specs.Sound.{sound}
-use Rattle.soundness.proofs.SlotLaws.{and-false, and-true}
 use borrow.Author.Needs.{needs}
 use borrow.Author.Tests.{eq-eqb, ne-eqb, not-false, not-true}
+use mathlib.Core.Bool.{and-false, and-true}
 use mathlib.Core.Path.{sym, _∙_}
 use Rattle.soundness.proofs.sound.Statement.{statement}
 use Rattle.soundness.proofs.sound.Tie as tie

@@ -125,12 +125,15 @@ returns-5 c =
     let read = rw e at (c .before .before .before .before .before .before .before .before .before .before .before .read-layout .ensures .0) in
     refused-whole _ _ _ _ (c .refused5 .ensures .0) (c .refused5 .ensures .1) (left-over (now (c .before .before .before .before .before .before .before .before .before .before .before .before .before .before .before .before .before .before .before .before .before .args .s)) _ _ (came resOfFrame (c .before .before .before .before .before .before .before .before .before .before .before .before .before .before .before .before .before .before .before .read-frame .ensures) (c .before .before .before .before .before .before .before .before .before .before .before .before .before .before .before .before .before .f .given .1)) (sym (c .before .before .before .before .before .before .before .before .before .before .before .before .before .before .before .enough .ensures) ∙ not-false _ (c .before .before .before .before .before .before .before .before .before .before .before .before .before .before .if1 .left)) _ (came (λ (r : LayoutAnswer). answerOfLayout r (c .before .before .before .before .before .before .before .before .before .before .before .read-layout .result .starts)) read (c .before .before .before .before .before .before .before .before .before .a .given .1)) _ _ (came resOfPart (c .before .before .before .before .before .before .read-bytes .ensures) (c .before .before .before .before .p .given .1)) (c .before .if2 .taken))
 
+layout4-in-requires : tie.Need-layout4-in-requires
+layout4-in-requires c κs = search needs
+
 returns-6 : tie.Need-returns-6
 returns-6 c =
     let size = c .before .before .before .before .before .before .before .before .before .before .before .before .before .before .before .before .before .before .f .given .0 .0 .size in
     let e : c .before .before .before .before .before .before .before .before .before .before .before .before .before .before .before .before .before .before .f .given .0 .1 .0 .at + size - c .before .before .before .before .before .before .before .before .before .before .before .before .before .before .before .before .before .before .f .given .0 .1 .0 .at ≡ size = omega arith in
     let read = rw e at (c .before .before .before .before .before .before .before .before .before .before .before .before .read-layout .ensures .0) in
-    accepted-whole _ _ _ _ (all-read (now (c .before .before .before .before .before .before .before .before .before .before .before .before .before .before .before .before .before .before .before .before .before .before .args .s)) _ _ (came resOfFrame (c .before .before .before .before .before .before .before .before .before .before .before .before .before .before .before .before .before .before .before .before .read-frame .ensures) (c .before .before .before .before .before .before .before .before .before .before .before .before .before .before .before .before .before .before .f .given .1)) (sym (c .before .before .before .before .before .before .before .before .before .before .before .before .before .before .before .before .enough .ensures) ∙ not-false _ (c .before .before .before .before .before .before .before .before .before .before .before .before .before .before .before .if1 .left)) _ (came (λ (r : LayoutAnswer). answerOfLayout r (c .before .before .before .before .before .before .before .before .before .before .before .before .read-layout .result .starts)) read (c .before .before .before .before .before .before .before .before .before .before .a .given .1)) _ _ (came resOfPart (c .before .before .before .before .before .before .before .read-bytes .ensures) (c .before .before .before .before .before .p .given .1)) (c .before .before .if2 .left))
+    rw (c .layout4-in .ensures) (accepted-whole _ _ _ _ (all-read (now (c .before .before .before .before .before .before .before .before .before .before .before .before .before .before .before .before .before .before .before .before .before .before .args .s)) _ _ (came resOfFrame (c .before .before .before .before .before .before .before .before .before .before .before .before .before .before .before .before .before .before .before .before .read-frame .ensures) (c .before .before .before .before .before .before .before .before .before .before .before .before .before .before .before .before .before .before .f .given .1)) (sym (c .before .before .before .before .before .before .before .before .before .before .before .before .before .before .before .before .enough .ensures) ∙ not-false _ (c .before .before .before .before .before .before .before .before .before .before .before .before .before .before .before .if1 .left)) _ (came (λ (r : LayoutAnswer). answerOfLayout r (c .before .before .before .before .before .before .before .before .before .before .before .before .read-layout .result .starts)) read (c .before .before .before .before .before .before .before .before .before .before .a .given .1)) _ _ (came resOfPart (c .before .before .before .before .before .before .before .read-bytes .ensures) (c .before .before .before .before .before .p .given .1)) (c .before .before .if2 .left)))
 
 pub read-layout4-spec : {M : Type 1} → statement M
 read-layout4-spec =
@@ -165,4 +168,5 @@ read-layout4-spec =
     returns-4
     refused-requires-5
     returns-5
+    layout4-in-requires
     returns-6)

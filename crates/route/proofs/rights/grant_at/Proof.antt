@@ -1,8 +1,9 @@
 -- `route::rights::grant_at` meets its contract. The loop's invariant: no segment passed holds the byte, so what is left decides. The measure is how
 -- many places are left.
 use Prim.Native.Nat.{_-_, _≤_, min}
+use Rattle.base.proofs.AnswerLaws.{pick-false, pick-true}
 use Rattle.lookup.proofs.LookupLaws.{length-used, mapped-long}
-use Rattle.route.proofs.RouteLaws.{grant-next, grant-none, pick-false, pick-true}
+use Rattle.route.proofs.RouteLaws.{grant-next, grant-none}
 use Rattle.route.specs.Routes.{grantAt}
 use Rattle.segments.specs.Segments.{blank, listOf}
 use borrow.Author.Needs.{needs}
