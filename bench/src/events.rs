@@ -1,7 +1,7 @@
 //! Events. Every call does the same: a refused event and one that changes nothing leave table and store; where an event changes the table, both kinds of
 //! Rust copy the table first, inside the measured call, and what it changes in the store is copied back by all.
 
-use crate::forms::{core_event, core_form, plain_event, tuned_event, tuned_form};
+use crate::forms::{by_value_event, core_event, core_form, plain_event, tuned_event, tuned_form};
 use crate::held::{body_of, layout4, Held, STEP};
 use crate::race::{Race, Row};
 use independent::event::{Event, RangeNumbers};
@@ -72,7 +72,7 @@ impl<'a> Trial<'a> {
         self.check();
         let Trial { held, event, changes_table, copied_back, .. } = self;
         let (changes, original) = (*changes_table, &held.store[..*copied_back]);
-        let [mut store, mut plain_store, mut tuned_store] = [(); 3].map(|()| held.store.clone());
+        let [mut store, mut plain_store, mut tuned_store, mut by_value_store] = [(); 4].map(|()| held.store.clone());
         let (mut plain, mut tuned) = (held.plain.clone(), held.tuned);
         let core = move || {
             let refusal = core_event(*black_box(&held.core), black_box(&mut store), black_box(event)).refusal;
@@ -95,17 +95,24 @@ impl<'a> Trial<'a> {
             tuned_store[..original.len()].copy_from_slice(original);
             refusal
         };
-        Race::new(&format!("{}, {}", self.work, held.name()), core, plain).tuned(tuned).run()
+        let by_value = move || {
+            let refusal = by_value_event(*black_box(&held.core), black_box(&mut by_value_store), black_box(event)).refusal;
+            by_value_store[..original.len()].copy_from_slice(original);
+            refusal
+        };
+        Race::new(&format!("{}, {}", self.work, held.name()), core, plain).tuned(tuned).by_value(by_value).run()
     }
 
-    /// All three answer and do the same, and what the trial says is so.
+    /// All rivals answer and do the same, and what the trial says is so.
     fn check(&self) {
         let Trial { held, event, .. } = self;
-        let [mut store, mut plain_store, mut tuned_store] = [(); 3].map(|()| held.store.clone());
+        let [mut store, mut plain_store, mut tuned_store, mut by_value_store] = [(); 4].map(|()| held.store.clone());
         let (mut plain, mut tuned) = (held.plain.clone(), held.tuned);
         let core = core_event(held.core, &mut store, event);
+        let by_value = by_value_event(held.core, &mut by_value_store, event);
         let answers = [core.refusal, plain_event(&mut plain, &mut plain_store, event), tuned_event(&mut tuned, &mut tuned_store, event)];
         assert_eq!(answers, [self.answer; 3], "{}", self.work);
+        assert!(by_value == core && by_value_store == store, "{}: by value", self.work);
         assert!(core.table == core_form(&plain) && tuned == tuned_form(&plain), "{}: tables differ", self.work);
         assert!(store == plain_store && tuned_store == plain_store, "{}: stores differ", self.work);
         assert_eq!(plain != held.plain, self.changes_table, "{}", self.work);

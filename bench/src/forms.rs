@@ -1,6 +1,7 @@
-//! The table in the core's and in the tuned form, an event put to each, and the plain answers in the tuned form.
+//! The table in the core's and in the tuned form, an event put to each rival, and the plain answers in the tuned form.
 
 use crate::tuned;
+use crate::tuned::by_value;
 use crate::tuned::locate::Location;
 use basilothyn::raw::{self, EventResult, SegmentRecord, TableRecord};
 use independent::event::Event;
@@ -17,6 +18,15 @@ pub fn core_event(table: TableRecord, store: &mut [u8], event: &Event) -> EventR
         Event::Return(n) => raw::layout_return(table, store, n.offset, n.length, n.iomode),
         Event::Recall(n) => raw::recall(table, store, n.offset, n.length, n.iomode),
         Event::Revoke => raw::revoke(table, store),
+    }
+}
+
+pub fn by_value_event(table: TableRecord, store: &mut [u8], event: &Event) -> EventResult {
+    match event {
+        Event::Grant(bytes) => by_value::grant(table, store, bytes),
+        Event::Return(n) => by_value::layout_return(table, store, n.offset, n.length, n.iomode),
+        Event::Recall(n) => by_value::recall(table, store, n.offset, n.length, n.iomode),
+        Event::Revoke => by_value::revoke(table, store),
     }
 }
 

@@ -3,6 +3,7 @@
 use crate::forms::plain_location;
 use crate::held::{Held, STEP};
 use crate::race::{Race, Row};
+use crate::tuned::by_value;
 use crate::tuned::locate::{locate_read, locate_write, Location};
 use basilothyn::raw::{self, LocateResult};
 use independent::io_request::{Direction, IoRequest};
@@ -22,19 +23,25 @@ fn name(direction: &str, held: &Held) -> String {
 
 fn write(held: &Held, offset: u64) -> Row {
     let request = IoRequest::write(offset, STEP);
-    check(held, &request, raw::locate_write(held.core, &held.store, offset, STEP), locate_write(&held.tuned, &held.store, offset, STEP));
+    let found = raw::locate_write(held.core, &held.store, offset, STEP);
+    assert_eq!(found, by_value::locate_write(held.core, &held.store, offset, STEP));
+    check(held, &request, found, locate_write(&held.tuned, &held.store, offset, STEP));
     let core = || raw::locate_write(*black_box(&held.core), black_box(&held.store), offset, STEP);
     Race::new(&name("write", held), core, || locate(black_box(&held.plain), black_box(&held.store), &request))
         .tuned(|| locate_write(black_box(&held.tuned), black_box(&held.store), offset, STEP))
+        .by_value(|| by_value::locate_write(*black_box(&held.core), black_box(&held.store), offset, STEP))
         .run()
 }
 
 fn read(held: &Held, offset: u64) -> Row {
     let request = IoRequest::read(offset, STEP);
-    check(held, &request, raw::locate_read(held.core, &held.store, offset, STEP), locate_read(&held.tuned, &held.store, offset, STEP));
+    let found = raw::locate_read(held.core, &held.store, offset, STEP);
+    assert_eq!(found, by_value::locate_read(held.core, &held.store, offset, STEP));
+    check(held, &request, found, locate_read(&held.tuned, &held.store, offset, STEP));
     let core = || raw::locate_read(*black_box(&held.core), black_box(&held.store), offset, STEP);
     Race::new(&name("read", held), core, || locate(black_box(&held.plain), black_box(&held.store), &request))
         .tuned(|| locate_read(black_box(&held.tuned), black_box(&held.store), offset, STEP))
+        .by_value(|| by_value::locate_read(*black_box(&held.core), black_box(&held.store), offset, STEP))
         .run()
 }
 

@@ -54,6 +54,7 @@ fn say_what_is_measured() {
 - plain Rust: the independent implementation in tests/, built for release
 - tuned Rust: bench/src/tuned, over references, without allocation, built like the plain one for baseline x86-64; it copies its table first where the
   event changes it
+- tuned by value: the same behind the core's boundary: the record of plain numbers comes in by value, is turned into a table, and a table into a record
 {}
 Layout bodies of 104 and 344 bytes are captured, that of 1,952 bytes has 3 mirrors of 8 servers; the report body has 8 reports of 16 errors. The scan is the
 time of a lookup on an empty table and a zero store, which is refused behind the scan, less that of a lookup with a store whose first byte is 1, which is

@@ -7,6 +7,7 @@ pub struct Race<'a> {
     core: Turn<'a>,
     plain: Turn<'a>,
     tuned: Option<Turn<'a>>,
+    by_value: Option<Turn<'a>>,
     rpcgen: Option<Turn<'a>>,
 }
 
@@ -17,16 +18,23 @@ pub struct Row {
     pub core: f64,
     pub plain: f64,
     pub tuned: Option<f64>,
+    pub by_value: Option<f64>,
     pub rpcgen: Option<f64>,
 }
 
 impl<'a> Race<'a> {
     pub fn new<A, B>(work: &str, core: impl FnMut() -> A + 'a, plain: impl FnMut() -> B + 'a) -> Self {
-        Race { work: work.to_string(), core: turn(core), plain: turn(plain), tuned: None, rpcgen: None }
+        Race { work: work.to_string(), core: turn(core), plain: turn(plain), tuned: None, by_value: None, rpcgen: None }
     }
 
     pub fn tuned<T>(mut self, work: impl FnMut() -> T + 'a) -> Self {
         self.tuned = Some(turn(work));
+        self
+    }
+
+    /// The tuned Rust behind the core's boundary.
+    pub fn by_value<T>(mut self, work: impl FnMut() -> T + 'a) -> Self {
+        self.by_value = Some(turn(work));
         self
     }
 
@@ -39,11 +47,13 @@ impl<'a> Race<'a> {
     pub fn run(mut self) -> Row {
         let mut rivals = vec![&mut self.core, &mut self.plain];
         rivals.extend(&mut self.tuned);
+        rivals.extend(&mut self.by_value);
         rivals.extend(&mut self.rpcgen);
         let mut times = shortest(&mut rivals).into_iter();
         let mut next = || times.next().unwrap_or(f64::NAN);
         let (core, plain) = (next(), next());
-        let row = Row { work: self.work, core, plain, tuned: self.tuned.map(|_| next()), rpcgen: self.rpcgen.map(|_| next()) };
+        let [tuned, by_value, rpcgen] = [self.tuned, self.by_value, self.rpcgen].map(|rival| rival.map(|_| next()));
+        let row = Row { work: self.work, core, plain, tuned, by_value, rpcgen };
         row.print();
         row
     }
@@ -51,15 +61,15 @@ impl<'a> Race<'a> {
 
 impl Row {
     pub fn print_head() {
-        println!("| work | core, ns | plain Rust, ns | tuned Rust, ns | rpcgen, ns | core / plain | core / tuned | core / rpcgen |");
-        println!("|---|---|---|---|---|---|---|---|");
+        println!("| work | core, ns | plain, ns | tuned, ns | tuned by value, ns | rpcgen, ns | core / plain | core / tuned | core / tuned by value | core / rpcgen |");
+        println!("|---|---|---|---|---|---|---|---|---|---|");
     }
 
     pub fn print(&self) {
         let time = |time: Option<f64>| time.map_or("-".to_string(), |time| format!("{time:.0}"));
         let ratio = |rival: Option<f64>| rival.map_or("-".to_string(), |rival| format!("{:.2}", self.core / rival));
-        let times = [Some(self.core), Some(self.plain), self.tuned, self.rpcgen].map(time).join(" | ");
-        let ratios = [Some(self.plain), self.tuned, self.rpcgen].map(ratio).join(" | ");
+        let times = [Some(self.core), Some(self.plain), self.tuned, self.by_value, self.rpcgen].map(time).join(" | ");
+        let ratios = [Some(self.plain), self.tuned, self.by_value, self.rpcgen].map(ratio).join(" | ");
         println!("| {} | {times} | {ratios} |", self.work);
     }
 }

@@ -45,7 +45,7 @@ pub fn row() -> (Row, String) {
     let forms = &times[3..];
     let fastest = forms.iter().copied().fold(f64::MAX, f64::min);
     let work = "scan of a zero store (a difference, see above)".to_string();
-    let row = Row { work, core: times[0] - times[1], plain: forms[0], tuned: Some(fastest), rpcgen: None };
+    let row = Row { work, core: times[0] - times[1], plain: forms[0], tuned: Some(fastest), by_value: None, rpcgen: None };
     row.print();
     let said: Vec<String> = FORMS.iter().zip(forms).map(|((name, _), time)| format!("{name} {time:.0} ns")).collect();
     let crossing = format!("A lookup with a store of another length, which is refused before anything is looked at: {:.0} ns.", times[2]);

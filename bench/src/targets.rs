@@ -28,6 +28,7 @@ pub fn print(layouts: &[(usize, Row)], scan: &Row, tables: &[Row]) {
     }
     scan.tuned.iter().for_each(|fastest| at_most("scan of the store, of the fastest Rust's time", SCAN, scan.core / fastest));
     worst("each event and lookup, of tuned Rust's time", TUNED, tables, |row| row.core / row.tuned.unwrap_or(row.plain));
+    worst("each event and lookup, of the time of tuned Rust by value (no target of the customer's)", TUNED, tables, |row| row.core / row.by_value.unwrap_or(row.plain));
     worst("each event and lookup, of plain Rust's time", PLAIN, tables, |row| row.core / row.plain);
 }
 

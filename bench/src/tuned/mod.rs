@@ -1,6 +1,7 @@
 //! The events and lookups once more, written from the scope paper to be fast: over references, without allocation, in plain safe Rust. Same checks, same
 //! order of refusals, same results as the core.
 
+pub mod by_value;
 pub mod bytes;
 pub mod edits;
 pub mod events;
