@@ -57,8 +57,8 @@ fn say_what_is_measured() {
 - tuned by value: the same behind the core's boundary: the record of plain numbers comes in by value, is turned into a table, and a table into a record
 {}
 Layout bodies of 104 and 344 bytes are captured, that of 1,952 bytes has 3 mirrors of 8 servers; the report body has 8 reports of 16 errors. The scan is the
-time of a lookup on an empty table and a zero store, which is refused behind the scan, less that of a lookup with a store whose first byte is 1, which is
-refused after the first 256 bytes; against it stand `iter().all`, as in the plain Rust, and the fastest of four forms. Slots are filled by bodies of 3,872 bytes that differ in their
+time of a lookup on an empty table with a store whose last byte is 1, less that of one whose first byte is 1: the first is refused after its last block of
+256 bytes, the second after its first; against it stand `iter().all`, as in the plain Rust, and the fastest of four forms, on as many bytes. Slots are filled by bodies of 3,872 bytes that differ in their
 last bytes. After a grant of a new body and after a revoke all rivals copy the slots that it changed back.
 ",
         rpcgen_line()
