@@ -1,9 +1,9 @@
 // The four events. Each borrows the first bytes of the store.
-use crate::say::say;
-use crate::say::say_refused;
 use crate::state::State;
 use events::Outcome;
 use events::Verdict;
+use print::say;
+use print::say_refused;
 use segments::Table;
 
 fn say_name(kind: u32) {

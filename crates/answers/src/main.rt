@@ -1,42 +1,34 @@
 // Reads a case file from standard input, puts each case to the core, and writes one line for each.
-mod bind_case;
-mod device_case;
 mod event_case;
 mod form;
-mod layout4_case;
-mod layout_case;
-mod locate_case;
 mod record;
-mod report_read_case;
-mod report_write_case;
-mod say;
-mod sixteen;
 mod spoil_case;
 mod state;
-mod store_case;
-mod table_case;
 
+use libc::STDOUT_FILENO;
+use print::say_field;
 use record::Record;
 use state::State;
 
 // A case that keeps nothing.
 fn say_wire_case(kind: u32, payload: &[u8]) {
     match kind {
-        64 => layout_case::say_layout(payload),
-        65 => layout4_case::say_layout4(payload),
-        66 => device_case::say_device(payload),
-        67 => bind_case::say_bind(payload),
-        68 => report_read_case::say_report_read(payload),
-        _ => report_write_case::say_report_write(payload),
+        64 => wire_cases::say_layout(payload),
+        65 => wire_cases::say_layout4(payload),
+        66 => wire_cases::say_device(payload),
+        67 => wire_cases::say_bind(payload),
+        68 => wire_cases::say_report_read(payload),
+        _ => wire_cases::say_report_write(payload),
     }
 }
 
 // A case that leaves the table as it is.
 fn say_case(kind: u32, payload: &[u8], state: State, store: &mut [u8]) {
+    let table = state.table;
     match kind {
-        70 | 71 => locate_case::say_locate(kind == 71, payload, state, store),
-        72 => table_case::say_table(state.table),
-        73 => store_case::say_store(store),
+        70 | 71 => table_cases::say_locate(kind == 71, payload, table, store, state.borrowed),
+        72 => table_cases::say_table(table),
+        73 => table_cases::say_store(store),
         74 => spoil_case::set_byte(payload, store),
         _ => say_wire_case(kind, payload),
     }
@@ -56,13 +48,18 @@ fn take_case(kind: u32, payload: &[u8], state: State, store: &mut [u8]) -> State
     }
 }
 
+// Whether the line's end could be written.
+fn end_line() -> bool {
+    io::write_all(STDOUT_FILENO, b"\n")
+}
+
 // The run's last line.
 fn say_last(r: Record, place: u64) {
     match r {
-        Record::End => say::say_field(b"end ", place),
-        _ => say::say_field(b"stop ", place),
+        Record::End => say_field(b"end ", place),
+        _ => say_field(b"stop ", place),
     }
-    say::end_line();
+    end_line();
 }
 
 // A proved loop has to end, and nothing says that a file does. So the place is bounded, by more than any file has.
@@ -82,7 +79,7 @@ fn main() {
             return;
         }
         state = take_case(kind, &payload[..size], state, &mut store);
-        if !say::end_line() {
+        if !end_line() {
             return;
         }
         place += record::HEAD + length as u64;

@@ -1,8 +1,8 @@
 // The cases that spoil the table and the store, and bring them back.
-use crate::say::say;
 use crate::state::State;
 use crate::state::start;
 use base::SlotNumber;
+use print::say;
 use segments::Right;
 use segments::Segment;
 use segments::Segments;

@@ -1,5 +1,5 @@
 // What the words behind the file's name ask for.
-use crate::say::say;
+use print::say;
 
 pub struct Wish {
     // The first offset, if numbers is not 0.

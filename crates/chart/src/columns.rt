@@ -1,22 +1,10 @@
 // The columns of a chart: the pieces that the core answers from an offset on, one after the other.
-use crate::say::digits;
 use base::LAST_BYTE;
 use base::StripeNumber;
+use drawing::Column;
+use drawing::Columns;
 use route::Located;
 use segments::Table;
-
-// The bytes from an offset on, and where they go. Without mirrors there is no right.
-pub struct Column {
-    pub offset: u64,
-    pub length: u64,
-    pub stripe: StripeNumber,
-    pub mirrors: u32,
-}
-
-pub struct Columns {
-    pub items: [Column; 64],
-    pub count: usize,
-}
 
 const NO_COLUMN: Column = Column {
     offset: 0,
@@ -88,41 +76,4 @@ pub(crate) fn find_columns(
         i += 1;
     }
     Columns { items, count: 64 }
-}
-
-// Whether the bytes of a column go to the server of a mirror and a stripe.
-pub(crate) fn goes_to(c: Column, m: u32, k: u32) -> bool {
-    if 8 <= m {
-        return false;
-    }
-    if c.mirrors >> m & 1 == 0 {
-        return false;
-    }
-    let stripe = c.stripe;
-    stripe.0 == k
-}
-
-pub(crate) fn larger(a: u64, b: u64) -> u64 {
-    if a < b {
-        return b;
-    }
-    a
-}
-
-// How many digits the longest offset or length has, at least six.
-pub(crate) fn widest(columns: Columns) -> u64 {
-    let mut width: u64 = 6;
-    let mut i: usize = 0;
-    while i < 64 {
-        if columns.count <= i {
-            return width;
-        }
-        let c = columns.items[i];
-        width = larger(width, digits(c.offset));
-        if c.mirrors != 0 {
-            width = larger(width, digits(c.length));
-        }
-        i += 1;
-    }
-    width
 }

@@ -2,18 +2,14 @@
 // FIRST is the first offset shown, UNITS how many stripe units; svg draws a picture instead of text.
 mod arguments;
 mod columns;
-mod facts;
 mod file;
 mod meaning;
-mod picture;
-mod say;
-mod subject;
-mod text;
 
 use arguments::ReadWish;
 use arguments::Wish;
 use base::Iomode;
 use columns::find_columns;
+use drawing::Subject;
 use events::Verdict;
 use file::ReadFile;
 use layout::Summary;
@@ -21,7 +17,6 @@ use layout4::Layout4;
 use layout4::Layout4Answer;
 use meaning::say_refused;
 use segments::Table;
-use subject::Subject;
 
 // The offset that a chart begins at: the one asked for, else the layout's own.
 fn first_offset(wish: Wish, own: u64) -> u64 {
@@ -57,10 +52,10 @@ fn draw(
         columns,
     };
     if wish.svg {
-        picture::draw_picture(bytes, s);
+        drawing::draw_picture(bytes, s);
         return;
     }
-    text::draw_text(bytes, s);
+    drawing::draw_text(bytes, s);
 }
 
 // The layout is granted to an empty table with an empty store, and the chart shows what is answered from these.

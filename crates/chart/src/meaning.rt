@@ -1,7 +1,7 @@
 // A refusal, in words.
-use crate::say::say;
-use crate::say::say_field;
 use base::Refusal;
+use print::say;
+use print::say_field;
 
 // The refusals of a layout4; an empty table and store give no other.
 fn say_meaning(e: Refusal) {

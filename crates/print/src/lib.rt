@@ -1,0 +1,90 @@
+// Words and numbers, to standard output.
+use base::Refusal;
+use libc::STDOUT_FILENO;
+ghost use Prim.Native.Nat.{_≤_};
+ghost use lib.ListN.{length};
+
+pub fn say(text: &[u8]) {
+    io::write_all(STDOUT_FILENO, text);
+}
+
+// What stands between the members of a list, before member i.
+pub fn say_between(text: &[u8], i: usize) {
+    if i != 0 {
+        say(text);
+    }
+}
+
+pub fn say_number(v: u64) {
+    io::print_decimal(STDOUT_FILENO, v);
+}
+
+// A number behind its name.
+pub fn say_field(name: &[u8], v: u64) {
+    say(name);
+    say_number(v);
+}
+
+// Where the next '#' of a text stands, from a place on; its end where there is none.
+fn mark_from(text: &[u8], from: usize) -> usize
+    ensures { λ r. ⌜ r ≤ length (now (text .entry)) ⌝ }
+{
+    let mut i = from;
+    while i < text.len() {
+        if text[i] == b'#' {
+            return i;
+        }
+        i += 1;
+    }
+    text.len()
+}
+
+// A text that has a '#' for each of some numbers, and nothing behind the last.
+pub fn say_fields(text: &[u8], values: &[u64]) {
+    let mut from: usize = 0;
+    let mut k: usize = 0;
+    while k < values.len() {
+        let mark = mark_from(text, from);
+        if mark < from {
+            return;
+        }
+        say_field(&text[from..mark], values[k]);
+        from = mark + 1;
+        k += 1;
+    }
+}
+
+fn wide(x: u8) -> u64 {
+    x as u64
+}
+
+// Each byte as two digits, eight bytes at a time while there are as many.
+pub fn say_hex(bytes: &[u8]) {
+    let mut i: usize = 0;
+    while i < bytes.len() {
+        if bytes.len() - i < 8 {
+            io::print_hex(STDOUT_FILENO, wide(bytes[i]), 2);
+            i += 1;
+        } else {
+            io::print_hex(STDOUT_FILENO, numbers::be8(bytes, i), 16);
+            i += 8;
+        }
+    }
+}
+
+// The device id at a place; nothing where its bytes run out.
+pub fn say_device_id(bytes: &[u8], at: usize) {
+    if bytes.len() < at {
+        return;
+    }
+    if bytes.len() - at < 16 {
+        return;
+    }
+    let end = at + 16;
+    say_hex(&bytes[at..end]);
+}
+
+// A refusal, behind what was asked.
+pub fn say_refused(e: Refusal) {
+    say_field(b" refused ", base::number(e) as u64);
+}

@@ -1,0 +1,40 @@
+// The forms of the payloads that have more than a body.
+ghost use Prim.Native.Nat.{_≤_};
+ghost use mathlib.Core.Path.{_≡_};
+ghost use Rattle.wire_cases.specs.Forms.{isBind, isReportWrite, listAt};
+
+// The longest output of a report-write.
+const MOST_OUTPUT: u32 = 4096;
+
+// The longest error list of a report-write.
+const MOST_ERRORS: u32 = 128;
+
+pub fn is_bind(payload: &[u8]) -> bool
+    ensures { λ r. ⌜ r ≡ isBind (now (payload .entry)) ⌝ }
+{
+    32 + numbers::le4(payload, 28) as usize <= payload.len()
+}
+
+// Where the list length of a report-write stands.
+pub(crate) fn list_at(count: u32) -> usize
+    ensures { λ r. ⌜ (r ≡ listAt count) × (r ≤ 296) ⌝ }
+{
+    if 8 < count {
+        return 296;
+    }
+    8 + 36 * (count as usize)
+}
+
+pub fn is_report_write(payload: &[u8]) -> bool
+    ensures { λ r. ⌜ r ≡ isReportWrite (now (payload .entry)) ⌝ }
+{
+    if MOST_OUTPUT < numbers::le4(payload, 0) {
+        return false;
+    }
+    let at = list_at(numbers::le4(payload, 4));
+    let errors = numbers::le4(payload, at);
+    if MOST_ERRORS < errors {
+        return false;
+    }
+    payload.len() == at + 4 + 24 * (errors as usize)
+}

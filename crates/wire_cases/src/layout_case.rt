@@ -1,0 +1,45 @@
+// A layout body.
+use layout::LayoutAnswer;
+use layout::Summary;
+use print::say;
+use print::say_between;
+use print::say_fields;
+use print::say_number;
+use print::say_refused;
+
+fn wide(x: u16) -> u64 {
+    x as u64
+}
+
+fn say_starts(starts: [u16; 128]) {
+    say(b" starts=");
+    let mut i: usize = 0;
+    while i < 128 {
+        say_between(b",", i);
+        say_number(wide(starts[i]));
+        i += 1;
+    }
+}
+
+pub(crate) fn say_summary(s: Summary, starts: [u16; 128]) {
+    let values = [
+        s.unit,
+        s.mirrors as u64,
+        s.servers as u64,
+        s.flags as u64,
+        s.hint as u64,
+    ];
+    say_fields(b" unit=# mirrors=# servers=# flags=# hint=#", &values);
+    say_starts(starts);
+}
+
+pub fn say_layout(payload: &[u8]) {
+    let got = layout::read_layout(payload);
+    let answer = got.answer;
+    let starts = got.starts;
+    say(b"layout-body");
+    match answer {
+        LayoutAnswer::Refused(e) => say_refused(e),
+        LayoutAnswer::Value(s) => say_summary(s, starts),
+    }
+}
