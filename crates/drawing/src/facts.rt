@@ -3,7 +3,7 @@ use base::Iomode;
 use layout::Summary;
 use layout4::Layout4;
 use print::say;
-use print::say_field;
+use print::say_fields;
 
 pub(crate) fn say_range(l: Layout4) {
     let iomode = l.iomode;
@@ -12,15 +12,16 @@ pub(crate) fn say_range(l: Layout4) {
         Iomode::ReadWrite => say(b"RW"),
         Iomode::Any => say(b"ANY"),
     }
-    say_field(b" layout of the bytes ", l.offset);
-    say_field(b" to ", l.last);
+    let values = [l.offset, l.last];
+    say_fields(b" layout of the bytes # to #", &values);
 }
 
 pub(crate) fn say_summary(s: Summary) {
-    say_field(b"stripe unit ", s.unit);
-    say_field(b", mirrors ", s.mirrors as u64);
-    say_field(b", servers in each ", s.servers as u64);
-    say_field(b", flags ", s.flags as u64);
+    let values = [s.unit, s.mirrors as u64, s.servers as u64, s.flags as u64];
+    say_fields(
+        b"stripe unit #, mirrors #, servers in each #, flags #",
+        &values,
+    );
 }
 
 pub(crate) fn say_key(iomode: Iomode) {

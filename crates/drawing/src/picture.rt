@@ -12,7 +12,15 @@ use crate::subject::device_at;
 use layout::Summary;
 use print::say;
 use print::say_device_id;
-use print::say_field;
+use print::say_fields;
+use svg::say_box;
+use svg::say_edge;
+use svg::say_entry;
+use svg::say_label;
+use svg::say_lane;
+use svg::say_line;
+use svg::say_size;
+use svg::say_style;
 
 // In pixels: where the lanes begin, the size of a column and of a lane, what is left free below a mirror.
 const LEFT: u64 = 320;
@@ -41,46 +49,6 @@ fn beyond(place: u64, by: u64) -> u64 {
     place + by
 }
 
-// Where text or a box stands: its two places as attributes.
-fn say_place(x: u64, y: u64) {
-    say_field(b" x=\"", x);
-    say_field(b"\" y=\"", y);
-    say(b"\"");
-}
-
-// A slanting label from a point on.
-fn say_label(x: u64, y: u64, turned: &[u8], v: u64) {
-    say_field(b"<text class=\"mono\" transform=\"translate(", x);
-    say_field(b",", y);
-    say(b") rotate(");
-    say(turned);
-    say_field(b")\">", v);
-    say(b"</text>\n");
-}
-
-fn say_line(x: u64, from: u64, to: u64) {
-    say_field(b"<path class=\"line\" d=\"M", x);
-    say_field(b" ", from);
-    say_field(b"V", to);
-    say(b"\"/>\n");
-}
-
-// A box, which a browser names by its bytes when it is pointed at.
-fn say_box(c: Column, m: u32, x: u64, y: u64) {
-    let stripe = c.stripe;
-    say_field(b"<rect class=\"box s", stripe.0 as u64);
-    say(b"\"");
-    say_place(beyond(x, 3), y);
-    say_field(
-        b" width=\"66\" height=\"36\" rx=\"5\"><title>offset ",
-        c.offset,
-    );
-    say_field(b", bytes ", c.length);
-    say_field(b", mirror ", m as u64);
-    say_field(b", stripe ", stripe.0 as u64);
-    say(b"</title></rect>\n");
-}
-
 fn say_mark(layer: Layer, c: Column, x: u64) {
     match layer {
         Layer::Offsets(y) => say_label(beyond(x, 10), y, b"-40", c.offset),
@@ -92,7 +60,15 @@ fn say_mark(layer: Layer, c: Column, x: u64) {
         Layer::Lines(from, to) => say_line(x, from, to),
         Layer::Boxes(m, k, y) => {
             if goes_to(c, m, k) {
-                say_box(c, m, x, y);
+                let stripe = c.stripe;
+                say_box(
+                    beyond(x, 3),
+                    y,
+                    c.offset,
+                    c.length,
+                    m as u64,
+                    stripe.0 as u64,
+                );
             }
         }
     }
@@ -148,28 +124,19 @@ fn lower_end(summary: Summary, top: u64) -> u64 {
     y
 }
 
-fn say_lane(y: u64, width: u64) {
-    say(b"<rect class=\"lane\"");
-    say_place(LEFT, y);
-    say_field(b" height=\"36\" width=\"", width);
-    say(b"\"/>\n");
-}
-
 fn say_name(bytes: &[u8], s: Subject, m: u32, k: u32, y: u64) {
-    say(b"<text");
-    say_place(28, beyond(y, 15));
-    say_field(b">mirror ", m as u64);
-    say_field(b", stripe ", k as u64);
-    say(b"</text>\n<text class=\"mono\"");
-    say_place(28, beyond(y, 31));
-    say(b">device ");
+    let values = [beyond(y, 15), m as u64, k as u64, beyond(y, 31)];
+    say_fields(
+        b"<text x=\"28\" y=\"#\">mirror #, stripe #</text>\n<text class=\"mono\" x=\"28\" y=\"#\">device ",
+        &values,
+    );
     say_device_id(bytes, device_at(s, m, k));
     say(b"</text>\n");
 }
 
 fn say_server(bytes: &[u8], s: Subject, m: u32, k: u32, y: u64, width: u64) {
     say_name(bytes, s, m, k, y);
-    say_lane(y, width);
+    say_lane(LEFT, y, width);
     let columns = s.columns;
     say_layer(Layer::Boxes(m, k, y), columns);
 }
@@ -197,30 +164,6 @@ fn say_mirrors(bytes: &[u8], s: Subject, top: u64, width: u64) {
     }
 }
 
-// One colour a stripe.
-fn say_style() {
-    say(
-        b"<style>\ntext{font:14px 'DejaVu Sans',Verdana,sans-serif;fill:#1f2937}\n.title{font-size:26px;font-weight:bold}\n",
-    );
-    say(b".mono{font:12px 'DejaVu Sans Mono',Menlo,Consolas,monospace;fill:#4b5563}\n");
-    say(b".lane{fill:#f3f4f6}.line{stroke:#d1d5db;fill:none}\n");
-    say(
-        b".s0{fill:#0072b2}.s1{fill:#e69f00}.s2{fill:#009e73}.s3{fill:#d55e00}.s4{fill:#56b4e9}.s5{fill:#cc79a7}.s6{fill:#f0e442}.s7{fill:#6b7280}\n",
-    );
-    say(
-        b".s8{fill:#1f3a93}.s9{fill:#a3600a}.s10{fill:#66c2a5}.s11{fill:#8e1b1b}.s12{fill:#7b5ea7}.s13{fill:#e7a5c9}.s14{fill:#9a9a1f}.s15{fill:#111827}\n",
-    );
-    say(b"</style>\n");
-}
-
-fn say_size(width: u64, height: u64) {
-    say_field(b"<svg xmlns=\"http://www.w3.org/2000/svg\" width=\"", width);
-    say_field(b"\" height=\"", height);
-    say_field(b"\" viewBox=\"0 0 ", width);
-    say_field(b" ", height);
-    say(b"\">\n");
-}
-
 fn say_head(s: Subject) {
     let layout = s.layout;
     let iomode = layout.iomode;
@@ -236,17 +179,6 @@ fn say_head(s: Subject) {
     say(b"</text>\n");
 }
 
-// One entry of the legend.
-fn say_entry(k: u32, x: u64, y: u64) {
-    say_field(b"<rect class=\"s", k as u64);
-    say(b"\"");
-    say_place(x, y);
-    say(b" width=\"18\" height=\"18\" rx=\"4\"/><text");
-    say_place(beyond(x, 26), beyond(y, 14));
-    say_field(b">stripe ", k as u64);
-    say(b"</text>\n");
-}
-
 // The legend, eight entries a line.
 fn say_legend(servers: u32, from: u64) {
     let mut x: u64 = 28;
@@ -257,19 +189,10 @@ fn say_legend(servers: u32, from: u64) {
             x = 28;
             y = beyond(y, 28);
         }
-        say_entry(k, x, y);
+        say_entry(k as u64, x, y, beyond(x, 26), beyond(y, 14));
         x = beyond(x, 104);
         k += 1;
     }
-}
-
-// The name of what stands along an edge.
-fn say_edge(name: &[u8], y: u64) {
-    say(b"<text class=\"mono\" text-anchor=\"end\"");
-    say_place(308, y);
-    say(b">");
-    say(name);
-    say(b"</text>\n");
 }
 
 // The columns' lines, offsets and lengths, between the lanes' upper and lower ends.

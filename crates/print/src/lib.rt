@@ -39,7 +39,7 @@ fn mark_from(text: &[u8], from: usize) -> usize
     text.len()
 }
 
-// A text that has a '#' for each of some numbers, and nothing behind the last.
+// A text with a number in the place of each '#'.
 pub fn say_fields(text: &[u8], values: &[u64]) {
     let mut from: usize = 0;
     let mut k: usize = 0;
@@ -51,6 +51,9 @@ pub fn say_fields(text: &[u8], values: &[u64]) {
         say_field(&text[from..mark], values[k]);
         from = mark + 1;
         k += 1;
+    }
+    if from < text.len() {
+        say(&text[from..]);
     }
 }
 

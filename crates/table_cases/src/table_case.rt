@@ -19,8 +19,7 @@ fn say_right(r: Right) {
 fn say_segment(s: Segment) {
     let right = s.right;
     let values = [s.first, s.last];
-    say_fields(b"#-#", &values);
-    say(b":");
+    say_fields(b"#-#:", &values);
     say_right(right);
 }
 

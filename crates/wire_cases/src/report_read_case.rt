@@ -35,8 +35,7 @@ fn say_errors(payload: &[u8], first: usize, count: u32) {
 fn say_head(head: ReportHead) {
     let stateid = head.stateid;
     let values = [head.offset, head.length];
-    say_fields(b" offset=#,length=#", &values);
-    say(b",stateid=");
+    say_fields(b" offset=#,length=#,stateid=", &values);
     say_hex(&stateid);
 }
 

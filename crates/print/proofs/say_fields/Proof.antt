@@ -47,8 +47,23 @@ loop-less c = search needs
 loop-again : tie.Need-loop-again Inv-loop μ-loop
 loop-again c = search needs
 
+sub-say : tie.Need-sub-say Inv-loop μ-loop
+sub-say c = search needs
+
+part-say-start : tie.Need-part-say-start Inv-loop μ-loop
+part-say-start c = search needs
+
+part-say-end : tie.Need-part-say-end Inv-loop μ-loop
+part-say-end c = search needs
+
+say-requires : tie.Need-say-requires Inv-loop μ-loop
+say-requires c κs = search needs
+
 returns-2 : tie.Need-returns-2 Inv-loop μ-loop
 returns-2 c = search needs
+
+returns-3 : tie.Need-returns-3 Inv-loop μ-loop
+returns-3 c = search needs
 
 pub say-fields-spec : {M : Type 1} → statement M
 say-fields-spec =
@@ -68,4 +83,9 @@ say-fields-spec =
     add-k
     loop-less
     loop-again
-    returns-2)
+    sub-say
+    part-say-start
+    part-say-end
+    say-requires
+    returns-2
+    returns-3)

@@ -16,11 +16,20 @@ loop-holds c = search needs
 beyond-requires : tie.Need-beyond-requires Inv-loop μ-loop
 beyond-requires c κs = search needs
 
-say-entry-requires : tie.Need-say-entry-requires Inv-loop μ-loop
-say-entry-requires c κs = search needs
+cast-say-entry : tie.Need-cast-say-entry Inv-loop μ-loop
+cast-say-entry c = search needs
 
 beyond-requires-2 : tie.Need-beyond-requires-2 Inv-loop μ-loop
 beyond-requires-2 c κs = search needs
+
+beyond-requires-3 : tie.Need-beyond-requires-3 Inv-loop μ-loop
+beyond-requires-3 c κs = search needs
+
+say-entry-requires : tie.Need-say-entry-requires Inv-loop μ-loop
+say-entry-requires c κs = search needs
+
+beyond-requires-4 : tie.Need-beyond-requires-4 Inv-loop μ-loop
+beyond-requires-4 c κs = search needs
 
 add-k : tie.Need-add-k Inv-loop μ-loop
 add-k c = search needs
@@ -42,8 +51,11 @@ say-legend-spec =
     μ-loop
     loop-holds
     beyond-requires
-    say-entry-requires
+    cast-say-entry
     beyond-requires-2
+    beyond-requires-3
+    say-entry-requires
+    beyond-requires-4
     add-k
     loop-less
     loop-again
