@@ -5,8 +5,10 @@
  * out by value; the store is borrowed for the time of a call. Nothing is kept between calls, nothing is allocated, and no call fails in
  * another way than by a refusal. A call that is refused gives back the table that it was handed and changes no byte that it borrowed.
  *
- * A borrowed run of bytes is a pointer and a length. The pointer must be valid for that many bytes, and not NULL, even where the length is 0; no two runs of
- * one call may overlap.
+ * A borrowed run is a pointer and a length, in bytes; for a list of errors in records. The pointer must be valid for that many, and not NULL, even
+ * where the length is 0; no two runs of one call may overlap.
+ *
+ * A body is handed over as it came in the NFS message, with its numbers in big-endian order. Numbers in the structs are the machine's.
  */
 #ifndef BASILOTHYN_H
 #define BASILOTHYN_H
@@ -20,7 +22,7 @@ extern "C" {
 
 /* Sizes. */
 enum {
-    BASILOTHYN_STORE_LENGTH = 32768, /* the bytes of a store: 8 slots of 4,096 */
+    BASILOTHYN_STORE_LENGTH = 32768, /* the bytes of a store: 8 slots of 4,096, see below */
     BASILOTHYN_SEGMENTS = 32,        /* the most segments of an iomode */
     BASILOTHYN_MIRRORS = 8,          /* the most mirrors of a layout */
     BASILOTHYN_SERVERS = 16          /* the most data servers of a mirror */
@@ -28,6 +30,9 @@ enum {
 
 /* The iomodes of NFS: a grant takes READ or RW, a return and a recall all three. */
 enum { BASILOTHYN_READ = 1, BASILOTHYN_RW = 2, BASILOTHYN_ANY = 3 };
+
+/* A range is an offset and a length above 0. A length of 2^64 - 1 means through byte 2^64 - 1, from any offset; with any other, offset + length is at most
+ * 2^64 - 1. An I/O request, an offset and a length above 0, has no special length: offset + length is at most 2^64 - 1, always. All else is refused with 5. */
 
 /* What a call answers: 0, or why it refuses. */
 enum basilothyn_refusal {
@@ -78,6 +83,9 @@ struct basilothyn_table {
     uint64_t rw_count;
 };
 
+/* The store: slot n starts at byte 4,096 * n. There stand the length of a layout body (4 bytes, little-endian), 4 (2 bytes, little-endian), the body, and
+ * zeros to the slot's end. A slot that no segment names is all zeros. The bytes may be read between calls, but only calls may change them. */
+
 /* What an event comes to: the refusal, and the table from now on (after a refusal the one handed over). */
 struct basilothyn_event_result {
     uint32_t refusal;
@@ -88,12 +96,12 @@ struct basilothyn_event_result {
 struct basilothyn_table basilothyn_empty_table(void);
 
 /* A grant: a layout4 as in the reply to LAYOUTGET. Its range becomes granted in its iomode under its body, which is laid into a slot of the store
- * unless it is there already. Refusals in order: 20; those of the layout4 (1 to 11); 21, 22, 24, 23. */
+ * unless it is there already. Refusals in order: 20; those of the layout4 (1 to 6, 8 to 11); 21, 22, 24, 23. */
 struct basilothyn_event_result basilothyn_grant(struct basilothyn_table table, uint8_t *store, size_t store_length, const uint8_t *bytes,
                                                 size_t length);
 
-/* A return: the range becomes free in the iomode (READ, RW or ANY), whatever it was, and slots that no segment names any more are zeroed. A length of
- * 2^64 - 1 means through the last byte. Refusals in order: 20, 5, 3, 23. */
+/* A return: the range becomes free in the iomode (READ, RW or ANY), whatever it was, and slots that no segment names any more are zeroed. Bytes that
+ * are not held may be among them. Refusals in order: 20, 5, 3, 23. */
 struct basilothyn_event_result basilothyn_return(struct basilothyn_table table, uint8_t *store, size_t store_length, uint64_t offset,
                                                  uint64_t length, uint32_t iomode);
 
@@ -107,7 +115,8 @@ struct basilothyn_event_result basilothyn_revoke(struct basilothyn_table table, 
 /* ---- where an I/O goes */
 
 /* The first piece of a request: length bytes from offset on go to the data server with this stripe number in each mirror whose bit is set in
- * mirrors (bit 0 is mirror 0), at the same offset there. iomode is the one that serves, slot has the layout body. All is 0 after a refusal. */
+ * mirrors (bit 0 is mirror 0), at the same offset there. iomode is the one that serves, slot is the number of the layout body's slot. After a refusal all but
+ * the refusal is 0. */
 struct basilothyn_locate_result {
     uint32_t refusal;
     uint32_t iomode;
@@ -118,11 +127,12 @@ struct basilothyn_locate_result {
     uint32_t mirrors;
 };
 
-/* Where a read goes: to one mirror. Refusals in order: 20, 5, 17. Ask again behind the piece for the rest. */
+/* Where a read goes: to one mirror, the one whose first data server has the highest efficiency, the lowest number on a tie. It is served by READ, or where
+ * that is not granted by RW under a body without flag 4. Refusals in order: 20, 5, 17. Ask again behind the piece for the rest. */
 struct basilothyn_locate_result basilothyn_locate_read(struct basilothyn_table table, const uint8_t *store, size_t store_length,
                                                        uint64_t offset, uint64_t length);
 
-/* Where a write goes: to every mirror, or with flag 8 to one. Refusals in order: 20, 5, 17. */
+/* Where a write goes: to every mirror, or with flag 8 to one, picked as for a read. It is served by RW. Refusals in order: 20, 5, 17. Ask again likewise. */
 struct basilothyn_locate_result basilothyn_locate_write(struct basilothyn_table table, const uint8_t *store, size_t store_length,
                                                         uint64_t offset, uint64_t length);
 
@@ -136,7 +146,9 @@ struct basilothyn_part {
     size_t length;
 };
 
-/* A layout body: stripe unit, counts, flags, hint. */
+/* A layout body: stripe unit (0 with one data server in each mirror), mirrors, data servers in each, flags, statistics hint (in seconds). The flags are bits:
+ * 1 no LAYOUTCOMMIT needed, 2 no I/O through the metadata server, 4 no reads under an RW layout, 8 write one mirror. Lookups obey 4 and 8; 1 and 2 are for
+ * the caller. */
 struct basilothyn_summary {
     uint64_t unit;
     uint32_t mirrors;
@@ -145,14 +157,17 @@ struct basilothyn_summary {
     uint32_t hint;
 };
 
-/* The data server of a mirror and a stripe starts at starts[mirror * 16 + stripe]: there stand its device id (16 bytes), efficiency (4), stateid (16). */
+/* The data server of a mirror and a stripe starts at starts[mirror * 16 + stripe]: there stand its device id (16 bytes), efficiency (4), stateid (16). Unused
+ * places of starts are 0. */
 struct basilothyn_layout_result {
     uint32_t refusal;
     struct basilothyn_summary summary;
     uint16_t starts[BASILOTHYN_MIRRORS * BASILOTHYN_SERVERS];
 };
 
-/* Reads a layout body (ff_layout4). Refusals: 1, 2, 6, 8, 9, 10, 11. */
+/* Reads a layout body (ff_layout4). Limits (else 8): at most 4,090 bytes; 1 to 8 mirrors, 1 to 16 data servers in each, 1 to 8 filehandles a data server, of
+ * 1 to 128 bytes; user and group of at most 64 bytes. All mirrors have as many data servers as the first (else 9); with one the stripe unit is 0, with more
+ * it is above 0 (else 10). Refusals: 1, 2, 6, 8, 9, 10, 11. */
 struct basilothyn_layout_result basilothyn_read_layout(const uint8_t *body, size_t length);
 
 /* offset and length as on the wire, the last byte of the range, where the body stands; starts count from the body's first byte. */
@@ -187,7 +202,7 @@ struct basilothyn_address {
     struct basilothyn_part text;
 };
 
-/* A version entry; tight is 1 for a tightly coupled server. */
+/* A version entry: NFS version and minor version, the largest read and write in bytes; tight is 1 for a tightly coupled server, else 0. */
 struct basilothyn_version {
     uint32_t version;
     uint32_t minor;
@@ -196,6 +211,7 @@ struct basilothyn_version {
     uint32_t tight;
 };
 
+/* The first address_count, version_count places are in use, the others are 0. */
 struct basilothyn_device_result {
     uint32_t refusal;
     uint32_t address_count;
@@ -204,11 +220,13 @@ struct basilothyn_device_result {
     struct basilothyn_version versions[8];
 };
 
-/* Reads a device body (ff_device_addr4), as in the reply to GETDEVICEINFO. Refusals: 1, 2, 6, 7, 8, 12. */
+/* Reads a device body (ff_device_addr4), as in the reply to GETDEVICEINFO. Limits (else 8): at most 2,048 bytes; 1 to 8 addresses, each a netid of 1 to 8
+ * bytes and a text of 1 to 64; 1 to 8 version entries. An entry (else 12) is version 3 with minor 0, not tight, or version 4 with minor 0, 1 or 2; its sizes
+ * are above 0. Refusals: 1, 2, 6, 7, 8, 12. */
 struct basilothyn_device_result basilothyn_read_device(const uint8_t *body, size_t length);
 
-/* How to speak to a data server: the version entry and its number, its filehandle in the layout body, and, if the entry is tight, where the stateid stands, else
- * user and group. */
+/* How to speak to a data server: the version entry and its number, from 0; where in the layout body its filehandle stands, and, if the entry is tight, the
+ * stateid (16 bytes), else user and group. What is not used is 0. */
 struct basilothyn_bind_result {
     uint32_t refusal;
     uint32_t entry;
@@ -219,8 +237,9 @@ struct basilothyn_bind_result {
     struct basilothyn_part group;
 };
 
-/* Binds the data server of a mirror and a stripe to its device: layout body, device body, and the device id that the device body was fetched under, of 16 bytes.
- * supported is a set of bits, 1, 2, 4, 8 for the versions 3, 4.0, 4.1, 4.2. Refusals in order: the layout body's, the device body's, 16, 8, 13, 14, 15. */
+/* Binds the data server of a mirror and a stripe to its device: layout body, device body, and at id the 16 bytes of the device id that the device body was
+ * fetched under. supported is a set of bits, 1, 2, 4, 8 for the versions 3, 4.0, 4.1, 4.2; the first version entry in the set is taken, and the filehandle
+ * with the same number. Refusals in order: the layout body's, the device body's, 16, 8 (supported is above 15), 13, 14, 15. */
 struct basilothyn_bind_result basilothyn_bind(const uint8_t *layout, size_t layout_length, uint32_t mirror, uint32_t stripe,
                                               const uint8_t *device, size_t device_length, const uint8_t *id, uint32_t supported);
 
@@ -234,7 +253,8 @@ struct basilothyn_report_head {
     uint32_t errors;
 };
 
-/* The first error of each report stands at errors_at, 24 bytes each: device id, status, operation. */
+/* The first error of report k stands in the body at errors_at[k]; heads[k].errors of them follow each other, 24 bytes each: device id (16), status (4),
+ * operation (4). */
 struct basilothyn_reports_result {
     uint32_t refusal;
     uint32_t count;
@@ -242,27 +262,29 @@ struct basilothyn_reports_result {
     size_t errors_at[8];
 };
 
-/* Reads the body of an ff_layoutreturn4. Refusals: 1, 2, 5, 8, 27. */
+/* Reads the body of an ff_layoutreturn4: 0 to 8 reports, and no statistics (else 8). Refusals: 1, 2, 5, 8, 27. */
 struct basilothyn_reports_result basilothyn_read_reports(const uint8_t *body, size_t length);
 
 struct basilothyn_report_heads {
     struct basilothyn_report_head heads[8];
 };
 
+/* status is an NFS status other than 0; operation is 5, 25 or 38: COMMIT, READ, WRITE. */
 struct basilothyn_error {
     uint8_t device[16];
     uint32_t status;
     uint32_t operation;
 };
 
-/* The body's length. */
+/* The body's length, 0 after a refusal. */
 struct basilothyn_write_result {
     uint32_t refusal;
     uint64_t length;
 };
 
-/* Writes the body of an ff_layoutreturn4: the first count heads, and one list of errors, error_count long, which go to the reports in order. Bytes of the output
- * behind the body stay. Refusals in order: 8 (more than 8 reports, a list of another length than the heads say), then report by report 5, 8, 27, then 26. */
+/* Writes the body of an ff_layoutreturn4: the first count heads, and one list of errors, error_count long: first those of heads[0], as many as it says, then
+ * those of heads[1], and so on. A report has 1 to 16 errors; 3,368 bytes of output are always enough. Bytes of the output behind the body stay. Refusals in
+ * order: 8 (more than 8 reports, a list of another length than the heads say), then report by report 5, 8, 27, then 26. */
 struct basilothyn_write_result basilothyn_write_report(uint32_t count, struct basilothyn_report_heads heads,
                                                        const struct basilothyn_error *errors, size_t error_count, uint8_t *out,
                                                        size_t out_length);

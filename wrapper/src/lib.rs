@@ -26,6 +26,7 @@ pub struct Piece {
     pub stripe: u32,
     /// The offset, in the file and on the server.
     pub offset: u64,
+    /// How many bytes the answer is good for; for the rest ask again behind them.
     pub length: u64,
     /// A set of bits; bit 0 is mirror 0.
     pub mirrors: u32,
@@ -51,31 +52,35 @@ impl Layouts {
         self.keep(result)
     }
 
-    /// A length of 2^64 - 1 means through the last byte.
+    /// LAYOUTRETURN was answered. A length of 2^64 - 1 means through the last byte, here and in a recall.
     pub fn layout_return(&mut self, offset: u64, length: u64, iomode: Iomode) -> Result<(), Refusal> {
         let result = raw::layout_return(self.table, &mut self.store, offset, length, iomode as u32);
         self.keep(result)
     }
 
+    /// CB_LAYOUTRECALL came: from now on no I/O goes to the range.
     pub fn recall(&mut self, offset: u64, length: u64, iomode: Iomode) -> Result<(), Refusal> {
         let result = raw::recall(self.table, &mut self.store, offset, length, iomode as u32);
         self.keep(result)
     }
 
+    /// Every right is gone, as after a lost lease.
     pub fn revoke(&mut self) -> Result<(), Refusal> {
         let result = raw::revoke(self.table, &mut self.store);
         self.keep(result)
     }
 
+    /// Where the first piece of a read goes.
     pub fn locate_read(&self, offset: u64, length: u64) -> Result<Piece, Refusal> {
         piece(raw::locate_read(self.table, &self.store, offset, length))
     }
 
+    /// Where the first piece of a write goes.
     pub fn locate_write(&self, offset: u64, length: u64) -> Result<Piece, Refusal> {
         piece(raw::locate_write(self.table, &self.store, offset, length))
     }
 
-    /// The layout body in a slot that a piece named.
+    /// The layout body in a slot that a piece named; empty once an event has cleared the slot. Panics if there is no such slot (8 or more).
     pub fn body(&self, slot: u32) -> &[u8] {
         let slot = &self.store[slot as usize * 4096..][..4096];
         let length = u32::from_le_bytes([slot[0], slot[1], slot[2], slot[3]]) as usize;

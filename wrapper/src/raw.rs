@@ -62,7 +62,7 @@ pub struct SummaryRecord {
     pub hint: u32,
 }
 
-/// The start of a data server stands at 16 times its mirror and its stripe.
+/// The data server of a mirror and a stripe starts at `starts[16 * mirror + stripe]`.
 #[repr(C)]
 #[derive(Clone, Copy, Debug, PartialEq, Eq)]
 pub struct LayoutResult {
@@ -198,7 +198,7 @@ mod exported {
     }
 }
 
-// Each function below hands on slices, which are valid for their lengths and do not overlap, as the borrow checker has seen.
+// Each function below hands on slices, which are valid for their lengths; one that is written to overlaps no other, as the borrow checker has seen.
 
 pub fn empty_table() -> TableRecord {
     unsafe { exported::basilothyn_empty_table() }
