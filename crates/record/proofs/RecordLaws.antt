@@ -9,14 +9,13 @@ use lib.Dec.{eqb}
 use lib.Seq.{append-snoc, drop-cons, take-all, take-suc-set}
 use Rattle.base.specs.Answer.{Answer, accepted, refused, given, pick}
 use Rattle.segments.specs.declared.Right.the-variants.{None, Granted, Recalled}
-use Rattle.segments.specs.Segments.{emptyTable, inPlaces}
+use Rattle.segments.specs.Segments.{emptyTable}
 use Rattle.segments.specs.declared.Segment.{Segment}
 use Rattle.segments.specs.declared.Segments.{Segments}
 use Rattle.segments.specs.declared.Table.{Table}
 use Rattle.record.specs.declared.types.SegmentRecord.{SegmentRecord}
 use Rattle.record.specs.declared.from.Taken.{Taken}
-use Rattle.record.specs.declared.from.TakenSegments.{TakenSegments}
-use Rattle.record.specs.Answers.{takenOf, takenSegments}
+use Rattle.record.specs.Answers.{takenOf}
 use Rattle.record.specs.declared.types.TableRecord.{TableRecord}
 use Rattle.record.specs.Records.{itemsIn, rightIn, segmentIn, segmentsIn, tableIn}
 
@@ -61,38 +60,23 @@ made-all l made i h k m = m ∙ rw (drop-of-length-le l h, take-all i made k, ap
 
 -- ---- both iomodes
 
-module _ (l : List SegmentRecord) (count : ℕ) where
-  pub segments-none : (n : ℕ) → itemsIn l ≡ refused n → record { fits = false; segments = inPlaces [] } ≡ takenSegments (segmentsIn l count)
-  unfolding takenSegments segmentsIn given
-  segments-none n e = rw e
+-- a refused answer in front, or behind
+pub none-left : (r : TableRecord) (n : ℕ) → itemsIn (r .read) ≡ refused n → record { fits = false; table = emptyTable } ≡ takenOf (tableIn r)
+unfolding tableIn segmentsIn takenOf given
+none-left r n e = rw e
 
-  pub segments-all : (made : List Segment) → itemsIn l ≡ accepted made
-      → record { fits = true; segments = record { items = made; count = count } } ≡ takenSegments (segmentsIn l count)
-  unfolding takenSegments segmentsIn given
-  segments-all made e = rw e
+pub none-right : (r : TableRecord) (n : ℕ) → itemsIn (r .rw) ≡ refused n → record { fits = false; table = emptyTable } ≡ takenOf (tableIn r)
+unfolding tableIn segmentsIn takenOf given
+none-right r n e = go (itemsIn (r .read))
+  where
+    go : (a : Answer (List Segment)) → record { fits = false; table = emptyTable } ≡ takenOf (given (given a λ xs. accepted (record { items = xs; count = r .«read_count» })) λ (read : Segments). given (given (itemsIn (r .rw)) λ xs. accepted (record { items = xs; count = r .«rw_count» })) λ (rw : Segments). accepted (record { read = read; rw = rw }))
+    go (accepted xs) = rw e
+    go (refused m) = refl
 
-abbrev tableOf : Answer Segments → Answer Segments → Answer Table
-tableOf a b = given a λ (read : Segments). given b λ (rw : Segments). accepted (record { read = read; rw = rw })
-
-pub taken-left : (a b : Answer Segments) (x : TakenSegments) → x ≡ takenSegments a → x .fits ≡ false
-    → record { fits = false; table = emptyTable } ≡ takenOf (tableOf a b)
-unfolding takenSegments takenOf given
-taken-left (accepted g) b x p f = absurd (false≢true (sym f ∙ ap (λ (y : TakenSegments). y .fits) p))
-taken-left (refused n) b x p f = refl
-
-pub taken-right : (a b : Answer Segments) (y : TakenSegments) → y ≡ takenSegments b → y .fits ≡ false
-    → record { fits = false; table = emptyTable } ≡ takenOf (tableOf a b)
-unfolding takenSegments takenOf given
-taken-right (accepted g) (accepted h) y p f = absurd (false≢true (sym f ∙ ap (λ (z : TakenSegments). z .fits) p))
-taken-right (accepted g) (refused n) y p f = refl
-taken-right (refused m) b y p f = refl
-
-pub taken-both : (a b : Answer Segments) (x y : TakenSegments) → x ≡ takenSegments a → y ≡ takenSegments b → x .fits ≡ true → y .fits ≡ true
-    → record { fits = true; table = record { read = x .segments; rw = y .segments } } ≡ takenOf (tableOf a b)
-unfolding takenSegments takenOf given
-taken-both (accepted g) (accepted h) x y p q f k = rw (p, q)
-taken-both (accepted g) (refused n) x y p q f k = absurd (false≢true (sym (ap (λ (z : TakenSegments). z .fits) q) ∙ k))
-taken-both (refused m) b x y p q f k = absurd (false≢true (sym (ap (λ (z : TakenSegments). z .fits) p) ∙ f))
+pub both-all : (r : TableRecord) (reads rws : List Segment) → itemsIn (r .read) ≡ accepted reads → itemsIn (r .rw) ≡ accepted rws
+    → record { fits = true; table = record { read = record { items = reads; count = r .«read_count» }; rw = record { items = rws; count = r .«rw_count» } } } ≡ takenOf (tableIn r)
+unfolding tableIn segmentsIn takenOf given
+both-all r reads rws e f = rw (e, f)
 
 -- ---- what was taken, read backwards
 

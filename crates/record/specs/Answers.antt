@@ -1,18 +1,15 @@
 -- What the answers of the record's functions say.
 use mathlib.Core.Bool.{true, false}
 use Rattle.base.specs.Answer.{Answer, accepted, refused}
-use Rattle.segments.specs.Segments.{emptyTable, inPlaces}
-use mathlib.Core.List.{[]}
+use Rattle.segments.specs.Segments.{emptyTable}
 use Rattle.segments.specs.declared.Right.{Right}
 use Rattle.segments.specs.declared.Segment.{Segment}
-use Rattle.segments.specs.declared.Segments.{Segments}
 use Rattle.segments.specs.declared.Table.{Table}
 use Rattle.record.specs.declared.from.ReadRight.{ReadRight}
 use Rattle.record.specs.declared.from.ReadRight.the-variants as right
 use Rattle.record.specs.declared.from.ReadSegment.{ReadSegment}
 use Rattle.record.specs.declared.from.ReadSegment.the-variants as segment
 use Rattle.record.specs.declared.from.Taken.{Taken}
-use Rattle.record.specs.declared.from.TakenSegments.{TakenSegments}
 
 abbrev pub answerOfRight : ReadRight → Answer Right
 answerOfRight (right.Value r) = accepted r
@@ -21,10 +18,6 @@ answerOfRight right.Unknown = refused 20
 abbrev pub answerOfSegment : ReadSegment → Answer Segment
 answerOfSegment (segment.Value s) = accepted s
 answerOfSegment segment.Unknown = refused 20
-
-unfoldable pub takenSegments : Answer Segments → TakenSegments
-takenSegments (accepted g) = record { fits = true; segments = g }
-takenSegments (refused n) = record { fits = false; segments = inPlaces [] }
 
 -- the empty table after a refusal
 unfoldable pub takenOf : Answer Table → Taken

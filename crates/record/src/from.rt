@@ -10,8 +10,8 @@ use segments::Table;
 ghost use mathlib.Core.Path.{_≡_};
 ghost use mathlib.Core.Bool.{false};
 ghost use Rattle.segments.specs.Segments.{emptyTable};
-ghost use Rattle.record.specs.Answers.{answerOfRight, answerOfSegment, takenOf, takenSegments};
-ghost use Rattle.record.specs.Records.{rightIn, segmentIn, segmentsIn, tableIn};
+ghost use Rattle.record.specs.Answers.{answerOfRight, answerOfSegment, takenOf};
+ghost use Rattle.record.specs.Records.{rightIn, segmentIn, tableIn};
 
 pub enum ReadRight {
     Value(Right),
@@ -23,16 +23,10 @@ pub enum ReadSegment {
     Unknown,
 }
 
-// Blank segments where one of the records stands for none.
-pub struct TakenSegments {
-    pub fits: bool,
-    pub segments: Segments,
-}
-
 // The empty table where the record stands for none.
 pub struct Taken {
-    pub fits: bool,
     pub table: Table,
+    pub fits: bool,
 }
 
 fn right_of(kind: u32, slot: u32) -> ReadRight
@@ -67,37 +61,6 @@ fn segment_of(s: SegmentRecord) -> ReadSegment
     })
 }
 
-fn segments_of(items: [SegmentRecord; 32], count: u64) -> TakenSegments
-    ensures { λ r. ⌜ r ≡ takenSegments (segmentsIn items count) ⌝ }
-{
-    let mut made = [BLANK; 32];
-    let mut i: usize = 0;
-    while i < 32 {
-        let s = items[i];
-        let r = segment_of(s);
-        let ReadSegment::Value(x) = r else {
-            let blanks = Segments {
-                items: [BLANK; 32],
-                count: 0,
-            };
-            return TakenSegments {
-                fits: false,
-                segments: blanks,
-            };
-        };
-        made[i] = x;
-        i += 1;
-    }
-    let segments = Segments {
-        items: made,
-        count: count as usize,
-    };
-    TakenSegments {
-        fits: true,
-        segments,
-    }
-}
-
 fn no_table() -> Taken
     ensures { λ x. ⌜ x ≡ record { fits = false; table = emptyTable } ⌝ }
 {
@@ -110,18 +73,30 @@ fn no_table() -> Taken
 pub fn table_of(r: TableRecord) -> Taken
     ensures { λ x. ⌜ x ≡ takenOf (tableIn r) ⌝ }
 {
-    let reads = r.read;
-    let rws = r.rw;
-    let a = segments_of(reads, r.read_count);
-    let b = segments_of(rws, r.rw_count);
-    if !a.fits {
-        return no_table();
+    let mut read = Segments {
+        items: [BLANK; 32],
+        count: r.read_count as usize,
+    };
+    let mut rw = Segments {
+        items: [BLANK; 32],
+        count: r.rw_count as usize,
+    };
+    let mut i: usize = 0;
+    while i < 32 {
+        let a = r.read[i];
+        let x = segment_of(a);
+        let ReadSegment::Value(s) = x else {
+            return no_table();
+        };
+        read.items[i] = s;
+        let b = r.rw[i];
+        let y = segment_of(b);
+        let ReadSegment::Value(w) = y else {
+            return no_table();
+        };
+        rw.items[i] = w;
+        i += 1;
     }
-    if !b.fits {
-        return no_table();
-    }
-    let read = a.segments;
-    let rw = b.segments;
     let table = Table { read, rw };
-    Taken { fits: true, table }
+    Taken { table, fits: true }
 }

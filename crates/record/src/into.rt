@@ -6,7 +6,6 @@ use segments::Right;
 use segments::Segment;
 use segments::Table;
 ghost use mathlib.Core.Path.{_≡_};
-ghost use mathlib.Core.List.{map};
 ghost use Rattle.record.specs.Records.{kindOf, recordOf, segmentRecord, slotOf};
 
 fn kind_of(right: Right) -> u32
@@ -41,32 +40,26 @@ fn segment_record(s: Segment) -> SegmentRecord
     }
 }
 
-fn segment_records(items: [Segment; 32]) -> [SegmentRecord; 32]
-    ensures { λ r. ⌜ r ≡ map segmentRecord items ⌝ }
-{
-    let mut made = [ZEROS; 32];
-    let mut i: usize = 0;
-    while i < 32 {
-        let s = items[i];
-        made[i] = segment_record(s);
-        i += 1;
-    }
-    made
-}
-
 pub fn record_of(t: Table) -> TableRecord
     ensures { λ r. ⌜ r ≡ recordOf t ⌝ }
 {
     let g = t.read;
     let h = t.rw;
-    let reads = g.items;
-    let rws = h.items;
-    let read = segment_records(reads);
-    let rw = segment_records(rws);
-    TableRecord {
-        read,
-        rw,
+    let mut r = TableRecord {
+        read: [ZEROS; 32],
+        rw: [ZEROS; 32],
         read_count: g.count as u64,
         rw_count: h.count as u64,
+    };
+    let mut i: usize = 0;
+    while i < 32 {
+        let a = g.items[i];
+        let x = segment_record(a);
+        r.read[i] = x;
+        let b = h.items[i];
+        let y = segment_record(b);
+        r.rw[i] = y;
+        i += 1;
     }
+    r
 }
