@@ -1,19 +1,21 @@
 -- Laws of the soundness of segments: the segment in a place with its neighbour, and the blank places.
 use Prim.Native.Nat.{ℕ, suc, _+_, _-_, _≤_, _<_}
-use mathlib.Core.Path.{_≡_, ap}
-use mathlib.Core.Bool.{true, false, not, _&&_}
+use mathlib.Core.Path.{_≡_, refl, ap}
+use mathlib.Core.Bool.{Bool, true, false, not, _&&_}
 use mathlib.Core.List.{List}
 use native.Mathlib.Numerals.{add-one}
 use native.Mathlib.Omega.{arith}
-use borrow.Author.Tests.{eq-eqb, le-ltb, lt-ltb, ne-eqb}
-use lib.Dec.{leb}
+use borrow.Author.Tests.{eq-eqb, eqb-false, eqb-true, le-ltb, lt-ltb, ne-eqb}
+use lib.Dec.{eqb, leb}
 use lib.ListN.{length, drop, getD, drop-of-length-le}
 use lib.Seq.{drop-cons}
+use Rattle.base.specs.Answer.{pick}
 use Rattle.segments.specs.declared.Segment.{Segment}
 use Rattle.segments.specs.declared.Segments.{Segments}
+use Rattle.segments.specs.declared.Table.{Table}
 use Rattle.segments.specs.Segments.{listOf, sameRight}
 use Rattle.lookup.proofs.LookupLaws.{next-segment}
-use Rattle.reference.specs.Sound.{allBlank, apart, apartFromNext, hasSlot, inOrder, isBlank}
+use Rattle.reference.specs.Sound.{allBlank, apart, apartFromNext, hasSlot, inOrder, isBlank, segmentsSound}
 
 -- ---- two neighbours
 
@@ -54,10 +56,44 @@ pub apart-none : (s : Segment) (g : Segments) (k : ℕ) → length (listOf g) �
 unfolding apartFromNext
 apart-none s g k h = ap (apartFromNext s) (drop-of-length-le (listOf g) h)
 
-pub blank-next : (l : List Segment) (k : ℕ) (d : Segment) → k < length l → allBlank (drop k l) ≡ (isBlank (getD l k d) && allBlank (drop (k + 1) l))
+blank-next : (l : List Segment) (k : ℕ) (d : Segment) → k < length l → allBlank (drop k l) ≡ (isBlank (getD l k d) && allBlank (drop (k + 1) l))
 unfolding allBlank
 blank-next l k d h = rw (add-one k, drop-cons l k d h)
 
 pub blank-none : (l : List Segment) (k : ℕ) → length l ≤ k → allBlank (drop k l) ≡ true
 unfolding allBlank
 blank-none l k h = ap allBlank (drop-of-length-le l h)
+
+pub blank-passed : (l : List Segment) (k : ℕ) (d : Segment) (z : Bool) → k < length l
+    → (z && allBlank (drop k l)) ≡ ((z && isBlank (getD l k d)) && allBlank (drop (k + 1) l))
+blank-passed l k d true h = blank-next l k d h
+blank-passed l k d false h = refl
+
+-- ---- both iomodes, the first i of them passed
+
+module _ (t : Table) (i : ℕ) where
+  pub one-unsound : (1 ≤ i → segmentsSound (t .read) ≡ true) → segmentsSound (pick (eqb i 0) (t .read) (t .rw)) ≡ false
+      → false ≡ (segmentsSound (t .read) && segmentsSound (t .rw))
+  unfolding pick
+  one-unsound p e = go (eqb i 0) refl e
+    where
+      go : (b : Bool) → eqb i 0 ≡ b → segmentsSound (pick b (t .read) (t .rw)) ≡ false → false ≡ (segmentsSound (t .read) && segmentsSound (t .rw))
+      go true h k = rw k
+      go false h k = let n = eqb-false i 0 h in rw (p (omega arith), k)
+
+  module _ (e : segmentsSound (pick (eqb i 0) (t .read) (t .rw)) ≡ true) where
+    pub read-passed : (1 ≤ i → segmentsSound (t .read) ≡ true) → segmentsSound (t .read) ≡ true
+    unfolding pick
+    read-passed p = go (eqb i 0) refl e
+      where
+        go : (b : Bool) → eqb i 0 ≡ b → segmentsSound (pick b (t .read) (t .rw)) ≡ true → segmentsSound (t .read) ≡ true
+        go true h k = k
+        go false h k = let n = eqb-false i 0 h in p (omega arith)
+
+    pub rw-passed : 1 ≤ i → segmentsSound (t .rw) ≡ true
+    unfolding pick
+    rw-passed h = go (eqb i 0) refl e
+      where
+        go : (b : Bool) → eqb i 0 ≡ b → segmentsSound (pick b (t .read) (t .rw)) ≡ true → segmentsSound (t .rw) ≡ true
+        go true z k = let n = eqb-true i 0 z in absurd (omega arith)
+        go false z k = k

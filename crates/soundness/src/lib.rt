@@ -14,12 +14,7 @@ pub fn sound(t: Table, store: &[u8]) -> bool
     if store.len() != 32768 {
         return false;
     }
-    let read = t.read;
-    if !lists::segments_sound(read) {
-        return false;
-    }
-    let rw = t.rw;
-    if !lists::segments_sound(rw) {
+    if !lists::lists_sound(t) {
         return false;
     }
     let named = lookup::named_slots(t);

@@ -2,13 +2,12 @@
 use segments::Right;
 use segments::Segment;
 use segments::Segments;
+use segments::Table;
 ghost use mathlib.Core.Path.{_≡_};
 ghost use mathlib.Core.Bool.{_&&_};
-ghost use Prim.Native.Nat.{_+_, _≤_, _<_};
-ghost use lib.Dec.{leb};
-ghost use lib.ListN.{drop, getD};
-ghost use Rattle.segments.specs.Segments.{blank, listOf};
-ghost use Rattle.reference.specs.Sound.{allBlank, apart, apartFromNext, hasSlot, inOrder, isBlank, segmentsSound};
+ghost use lib.Dec.{eqb, leb};
+ghost use Rattle.base.specs.Answer.{pick};
+ghost use Rattle.reference.specs.Sound.{apart, hasSlot, isBlank, segmentsSound};
 
 fn has_slot(r: Right) -> bool
     ensures { λ b. ⌜ b ≡ hasSlot r ⌝ }
@@ -46,11 +45,26 @@ fn are_apart(a: Segment, b: Segment) -> bool
     !segments::same_right(x, y)
 }
 
-// Each segment by itself, and with its neighbour behind it.
-fn in_order(g: Segments) -> bool
-    requires { ⌜ g .count ≤ 32 ⌝ }
-    ensures { λ r. ⌜ r ≡ inOrder (listOf g) ⌝ }
+fn is_blank(s: Segment) -> bool
+    ensures { λ r. ⌜ r ≡ isBlank s ⌝ }
 {
+    if s.first != 0 {
+        return false;
+    }
+    if s.last != 0 {
+        return false;
+    }
+    let right = s.right;
+    segments::same_right(Right::None, right)
+}
+
+// Each segment by itself, and with its neighbour behind it; then the places behind the last one, with no exit among them, which costs more than it saves.
+fn segments_sound(g: Segments) -> bool
+    ensures { λ r. ⌜ r ≡ segmentsSound g ⌝ }
+{
+    if 32 < g.count {
+        return false;
+    }
     let mut k: usize = 0;
     while k < g.count {
         let s = g.items[k];
@@ -65,45 +79,35 @@ fn in_order(g: Segments) -> bool
             }
         }
     }
-    true
-}
-
-fn is_blank(s: Segment) -> bool
-    ensures { λ r. ⌜ r ≡ isBlank s ⌝ }
-{
-    if s.first != 0 {
-        return false;
-    }
-    if s.last != 0 {
-        return false;
-    }
-    let right = s.right;
-    segments::same_right(Right::None, right)
-}
-
-// The places behind the last segment.
-fn others_blank(g: Segments) -> bool
-    ensures { λ r. ⌜ r ≡ allBlank (drop (g .count) (g .items)) ⌝ }
-{
-    let mut k = g.count;
+    let mut blank = true;
     while k < 32 {
         let s = g.items[k];
-        if !is_blank(s) {
-            return false;
-        }
+        blank = blank & is_blank(s);
         k += 1;
     }
-    true
+    blank
 }
 
-pub(crate) fn segments_sound(g: Segments) -> bool
-    ensures { λ r. ⌜ r ≡ segmentsSound g ⌝ }
+fn list_in(t: Table, i: u32) -> Segments
+    ensures { λ r. ⌜ r ≡ pick (eqb i 0) (t .read) (t .rw) ⌝ }
 {
-    if 32 < g.count {
-        return false;
+    if i == 0 {
+        return t.read;
     }
-    if !in_order(g) {
-        return false;
+    t.rw
+}
+
+// One place that asks, in a turn for each iomode: a function that is called in two places is not inlined, and copies the list once more.
+pub(crate) fn lists_sound(t: Table) -> bool
+    ensures { λ r. ⌜ r ≡ (segmentsSound (t .read) && segmentsSound (t .rw)) ⌝ }
+{
+    let mut i: u32 = 0;
+    while i < 2 {
+        let g = list_in(t, i);
+        if !segments_sound(g) {
+            return false;
+        }
+        i += 1;
     }
-    others_blank(g)
+    true
 }

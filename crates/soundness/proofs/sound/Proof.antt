@@ -11,19 +11,12 @@ returns : tie.Need-returns
 unfolding sound
 returns c = rw (ne-eqb _ _ (c .if1 .taken), and-false)
 
-segments-sound-requires : tie.Need-segments-sound-requires
-segments-sound-requires c κs = search needs
+lists-sound-requires : tie.Need-lists-sound-requires
+lists-sound-requires c κs = search needs
 
 returns-2 : tie.Need-returns-2
 unfolding sound
-returns-2 c = rw (sym (c .before .segments-sound .ensures) ∙ not-true _ (c .if2 .taken))
-
-segments-sound-requires-2 : tie.Need-segments-sound-requires-2
-segments-sound-requires-2 c κs = search needs
-
-returns-3 : tie.Need-returns-3
-unfolding sound
-returns-3 c = rw (sym (c .before .before .before .before .segments-sound .ensures) ∙ not-false _ (c .before .before .before .if2 .left), sym (c .before .segments-sound2 .ensures) ∙ not-true _ (c .if3 .taken))
+returns-2 c = rw (sym (c .before .lists-sound .ensures) ∙ not-true _ (c .if2 .taken))
 
 named-slots-requires : tie.Need-named-slots-requires
 named-slots-requires c κs = search needs
@@ -31,28 +24,26 @@ named-slots-requires c κs = search needs
 slots-sound-requires : tie.Need-slots-sound-requires
 slots-sound-requires c κs = search needs
 
-returns-4 : tie.Need-returns-4
+returns-3 : tie.Need-returns-3
 unfolding sound
-returns-4 c = rw (sym (c .before .before .before .before .before .before .before .segments-sound .ensures) ∙ not-false _ (c .before .before .before .before .before .before .if2 .left), sym (c .before .before .before .before .segments-sound2 .ensures) ∙ not-false _ (c .before .before .before .if3 .left), sym (c .before .slots-sound .ensures (c .before .before .before .before .before .before .before .before .before .before .before .args .t) (c .before .before .named-slots .ensures)) ∙ not-true _ (c .if4 .taken))
+returns-3 c = rw (sym (c .before .before .before .before .lists-sound .ensures) ∙ not-false _ (c .before .before .before .if2 .left), sym (c .before .slots-sound .ensures (c .before .before .before .before .before .before .before .args .t) (c .before .before .named-slots .ensures)) ∙ not-true _ (c .if3 .taken))
 
 no-two-alike-requires : tie.Need-no-two-alike-requires
 no-two-alike-requires c κs = search needs
 
-returns-5 : tie.Need-returns-5
+returns-4 : tie.Need-returns-4
 unfolding sound
-returns-5 c = rw (sym (c .before .before .before .before .before .before .before .before .segments-sound .ensures) ∙ not-false _ (c .before .before .before .before .before .before .before .if2 .left), sym (c .before .before .before .before .before .segments-sound2 .ensures) ∙ not-false _ (c .before .before .before .before .if3 .left), sym (c .before .before .slots-sound .ensures (c .before .before .before .before .before .before .before .before .before .before .before .before .args .t) (c .before .before .before .named-slots .ensures)) ∙ not-false _ (c .before .if4 .left), eq-eqb _ _ (c .before .before .before .before .before .before .before .before .before .before .if1 .left), and-true) (c .no-two-alike .ensures (c .before .before .before .before .before .before .before .before .before .before .before .before .args .t) (c .before .before .before .named-slots .ensures))
+returns-4 c = rw (sym (c .before .before .before .before .before .lists-sound .ensures) ∙ not-false _ (c .before .before .before .before .if2 .left), sym (c .before .before .slots-sound .ensures (c .before .before .before .before .before .before .before .before .args .t) (c .before .before .before .named-slots .ensures)) ∙ not-false _ (c .before .if3 .left), eq-eqb _ _ (c .before .before .before .before .before .before .if1 .left), and-true) (c .no-two-alike .ensures (c .before .before .before .before .before .before .before .before .args .t) (c .before .before .before .named-slots .ensures))
 
 pub sound-spec : {M : Type 1} → statement M
 sound-spec =
     tie.close
     (tie.spec
     returns
-    segments-sound-requires
+    lists-sound-requires
     returns-2
-    segments-sound-requires-2
-    returns-3
     named-slots-requires
     slots-sound-requires
-    returns-4
+    returns-3
     no-two-alike-requires
-    returns-5)
+    returns-4)
