@@ -5,11 +5,10 @@ use Rattle.lookup.proofs.LookupLaws.{length-used, mapped-long}
 use Rattle.reference.specs.Sound.{allBlank, inOrder, segmentsSound}
 use Rattle.segments.specs.Segments.{blank, listOf}
 use Rattle.soundness.proofs.ListLaws.{apart-next, apart-none, blank-none, blank-passed, order-next, order-none}
-use Rattle.soundness.proofs.SlotLaws.{and-true}
 use borrow.Author.Needs.{needs}
 use borrow.Author.Tests.{le-leb, lt-leb, not-false, not-true}
 use lib.ListN.{drop, getD, length}
-use mathlib.Core.Bool.{_&&_}
+use mathlib.Core.Bool.{_&&_, and-true}
 use mathlib.Core.Path.{_≡_, refl, sym, _∙_}
 use native.Mathlib.Omega.{arith}
 use Rattle.soundness.proofs.lists.segments_sound.Statement.{statement}
