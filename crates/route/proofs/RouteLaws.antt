@@ -1,8 +1,10 @@
 -- What each way out of the route's functions leaves.
 use Prim.Native.Nat.{ℕ, _+_, _≤_, _<_}
-use mathlib.Core.Path.{_≡_, ap, _∙_}
-use mathlib.Core.Bool.{Bool, true, false}
+use mathlib.Core.Path.{_≡_, sym, ap, _∙_}
+use mathlib.Core.Bool.{Bool, true, false, _&&_}
 use mathlib.Core.List.{List}
+use native.Mathlib.Omega.{arith}
+use lib.Dec.{ltb}
 use lib.ListN.{length, drop, getD, drop-of-length-le, replicate}
 use Rattle.base.specs.Answer.{Answer, accepted, refused, given, pick}
 use Rattle.base.specs.Refusals.{numberOf}
@@ -11,15 +13,18 @@ use Rattle.base.specs.declared.StripeNumber.{StripeNumber}
 use Rattle.base.specs.declared.iomode.Iomode.{Iomode}
 use Rattle.base.specs.declared.iomode.Iomode.the-variants.{Read, ReadWrite}
 use Rattle.base.specs.Ranges.{requestLast}
+use Rattle.layout.specs.Answers.{answerOfLayout}
 use Rattle.layout.specs.Layouts.{Layout, layoutBody}
+use Rattle.layout.specs.declared.body.LayoutAnswer.{LayoutAnswer}
 use Rattle.segments.specs.declared.Segment.{Segment}
 use Rattle.segments.specs.declared.Segments.{Segments}
 use Rattle.segments.specs.declared.Table.{Table}
-use Rattle.segments.specs.Segments.{READ, RW, listIn, listOf, within}
+use Rattle.segments.specs.Segments.{READ, RW, isNamed, listIn, listOf, within}
 use Rattle.lookup.proofs.LookupLaws.{next-segment}
 use Rattle.store.specs.Store.{bodyIn, slotAt}
 use Rattle.reference.specs.Sound.{sound}
-use Rattle.route.specs.Answers.{answerOfServing}
+use Rattle.soundness.specs.Judgements.{layoutJudged, layoutNamed}
+use Rattle.route.specs.Answers.{Known, answerOfServing}
 use Rattle.route.specs.Routes as routes
 use Rattle.route.specs.Routes.{grantAt, grantOf, layoutIn, mirrorsNamed, noReads, pieceAt, readFromRw, readServed, routed, served, servedBy, writeServed}
 use Rattle.route.specs.Stripes.{pieceLength, stripeOf}
@@ -49,6 +54,16 @@ refused-serving r e h = ap (λ (r : Serving). answerOfServing (r .answer) (r .st
 pub layout-in : (store slot body : List ℕ) (i : ℕ) → slot ≡ slotAt store i → body ≡ bodyIn slot → layoutBody body ≡ layoutIn store i
 unfolding layoutIn
 layout-in store slot body i e h = rw (h, e)
+
+-- what a judgement read on its way is the slot's too
+pub judged-known : (t : Table) (store : List ℕ) (i : ℕ) (a : LayoutAnswer) (starts : List ℕ) → answerOfLayout a starts ≡ layoutJudged t store i → Known store i a starts
+unfolding layoutJudged layoutNamed layoutIn pick
+judged-known t store i a starts h l e = go (sound t store) (ltb i 8 && isNamed t i) (sym h ∙ e)
+  where
+    go : (b d : Bool) → pick b (pick d (layoutBody (bodyIn (slotAt store i))) (refused 20)) (refused 20) ≡ accepted l → layoutBody (bodyIn (slotAt store i)) ≡ accepted l
+    go true true k = k
+    go true false k = let z : _≡_ {A = ℕ} 0 1 = cc in absurd (omega arith)
+    go false d k = let z : _≡_ {A = ℕ} 0 1 = cc in absurd (omega arith)
 
 module _ (store : List ℕ) where
   pub layout-refused : (i : Iomode) (g : routes.Grant) (n : ℕ) → layoutIn store (g .slot) ≡ refused n → servedBy i store g ≡ refused n

@@ -1,10 +1,14 @@
 -- What the answers of the route's functions say; why..: the refusal in one, and of one with a value 17.
 use Prim.Native.Nat.{ℕ}
 use mathlib.Core.List.{List}
+use mathlib.Core.Path.{_≡_}
 use Rattle.base.specs.Answer.{Answer, accepted, refused}
 use Rattle.base.specs.Refusals.{numberOf}
 use Rattle.base.specs.declared.refusal.Refusal.{Refusal}
 use Rattle.base.specs.declared.refusal.Refusal.the-variants.{RightMissing}
+use Rattle.layout.specs.Answers.{answerOfLayout}
+use Rattle.layout.specs.Layouts.{Layout}
+use Rattle.layout.specs.declared.body.LayoutAnswer.{LayoutAnswer}
 use Rattle.route.specs.Routes as routes
 use Rattle.route.specs.declared.piece.Piece.{Piece}
 use Rattle.route.specs.declared.piece.Located.{Located}
@@ -34,3 +38,7 @@ whyServing (serving.Refused e) = e
 abbrev pub answerOfLocated : Located → Answer Piece
 answerOfLocated (located.At p) = accepted p
 answerOfLocated (located.Refused e) = refused (numberOf e)
+
+-- what is known of the layout body in a slot before it is looked at: what it reads as, or nothing, where the answer is a refusal
+abbrev pub Known : List ℕ → ℕ → LayoutAnswer → List ℕ → Type 0
+Known store slot answer starts = (l : Layout) → answerOfLayout answer starts ≡ accepted l → routes.layoutIn store slot ≡ accepted l

@@ -5,6 +5,7 @@ use crate::piece::Piece;
 use crate::rights::Grant;
 use crate::rights::ServingAnswer;
 use crate::rights::find_serving;
+use crate::rights::likely_slot;
 use crate::stripes::piece_length;
 use crate::stripes::stripe_of;
 use base::Iomode;
@@ -68,14 +69,17 @@ fn piece_at(
 pub fn locate(t: Table, store: &[u8], write: bool, offset: u64, len: u64) -> Located
     ensures { λ r. ⌜ answerOfLocated r ≡ routed write t (now (store .entry)) offset len ⌝ }
 {
-    if !soundness::sound(t, store) {
+    let wanted = likely_slot(write, t, offset);
+    let j = soundness::judge(t, store, wanted);
+    if !j.sound {
         return Located::Refused(Refusal::Unsound);
     }
     let e = base::request_last(offset, len);
     let Last::At(_) = e else {
         return Located::Refused(base::why_last(e));
     };
-    let v = find_serving(write, t, store, offset);
+    let known = j.read;
+    let v = find_serving(write, t, store, offset, wanted, known);
     let a = v.answer;
     let ServingAnswer::Value(iomode, g, summary) = a else {
         return Located::Refused(why_serving(a));

@@ -3,6 +3,7 @@ use base::Iomode;
 use base::Refusal;
 use base::SlotNumber;
 use layout::LayoutAnswer;
+use layout::LayoutRead;
 use layout::Summary;
 use segments::Right;
 use segments::Segment;
@@ -11,8 +12,9 @@ use segments::Table;
 ghost use mathlib.Core.Path.{_≡_};
 ghost use lib.ListN.{replicate};
 ghost use Rattle.segments.specs.Segments.{listOf, within};
-ghost use Rattle.route.specs.Answers.{answerOfGrant, answerOfServing, whyGrant};
-ghost use Rattle.route.specs.Routes.{grantAt, grantOf, readFromRw, served, servedBy, writeServed};
+ghost use Rattle.layout.specs.Answers.{answerOfLayout};
+ghost use Rattle.route.specs.Answers.{Known, answerOfGrant, answerOfServing, whyGrant};
+ghost use Rattle.route.specs.Routes.{grantAt, grantOf, layoutIn, readFromRw, served, servedBy, writeServed};
 
 // The slot of a granted segment's body, and its last byte.
 pub struct Grant {
@@ -92,10 +94,31 @@ fn why_grant(r: ReadGrant) -> Refusal
     }
 }
 
-fn served_by(iomode: Iomode, store: &[u8], g: Grant) -> Serving
+// The layout body in a slot. `known` is what the one in the wanted slot reads as, or refused.
+fn layout_of(store: &[u8], slot: SlotNumber, wanted: SlotNumber, known: LayoutRead) -> LayoutRead
+    requires { ⌜ Known (now store) (wanted .0) (known .answer) (known .starts) ⌝ }
+    ensures { λ r. ⌜ answerOfLayout (r .answer) (r .starts) ≡ layoutIn (now (store .entry)) (slot .0) ⌝ }
+{
+    if slot.0 == wanted.0 {
+        let a = known.answer;
+        if let LayoutAnswer::Value(_) = a {
+            return known;
+        }
+    }
+    layout::read_layout(store::slot_body(store::slot_bytes(store, slot)))
+}
+
+fn served_by(
+    iomode: Iomode,
+    store: &[u8],
+    g: Grant,
+    wanted: SlotNumber,
+    known: LayoutRead,
+) -> Serving
+    requires { ⌜ Known (now store) (wanted .0) (known .answer) (known .starts) ⌝ }
     ensures { λ r. ⌜ answerOfServing (r .answer) (r .starts) ≡ servedBy iomode (now (store .entry)) (record { slot = g .slot .0; last = g .last }) ⌝ }
 {
-    let l = layout::read_layout(store::slot_body(store::slot_bytes(store, g.slot)));
+    let l = layout_of(store, g.slot, wanted, known);
     let a = l.answer;
     let LayoutAnswer::Value(summary) = a else {
         return refused(layout::why_layout(a));
@@ -108,7 +131,8 @@ fn served_by(iomode: Iomode, store: &[u8], g: Grant) -> Serving
 }
 
 // "A write needs RW granted."
-fn write_served(t: Table, store: &[u8], x: u64) -> Serving
+fn write_served(t: Table, store: &[u8], x: u64, wanted: SlotNumber, known: LayoutRead) -> Serving
+    requires { ⌜ Known (now store) (wanted .0) (known .answer) (known .starts) ⌝ }
     ensures { λ r. ⌜ answerOfServing (r .answer) (r .starts) ≡ writeServed t (now (store .entry)) x ⌝ }
 {
     let rw = t.rw;
@@ -116,14 +140,15 @@ fn write_served(t: Table, store: &[u8], x: u64) -> Serving
     let ReadGrant::Value(g) = h else {
         return refused(why_grant(h));
     };
-    served_by(Iomode::ReadWrite, store, g)
+    served_by(Iomode::ReadWrite, store, g, wanted, known)
 }
 
 // ".. or RW granted under a body without flag 4"
-fn read_from_rw(t: Table, store: &[u8], x: u64) -> Serving
+fn read_from_rw(t: Table, store: &[u8], x: u64, wanted: SlotNumber, known: LayoutRead) -> Serving
+    requires { ⌜ Known (now store) (wanted .0) (known .answer) (known .starts) ⌝ }
     ensures { λ r. ⌜ answerOfServing (r .answer) (r .starts) ≡ readFromRw t (now (store .entry)) x ⌝ }
 {
-    let v = write_served(t, store, x);
+    let v = write_served(t, store, x, wanted, known);
     let a = v.answer;
     let ServingAnswer::Value(_, _, summary) = a else {
         return v;
@@ -134,16 +159,41 @@ fn read_from_rw(t: Table, store: &[u8], x: u64) -> Serving
     v
 }
 
-pub(crate) fn find_serving(write: bool, t: Table, store: &[u8], x: u64) -> Serving
+pub(crate) fn find_serving(
+    write: bool,
+    t: Table,
+    store: &[u8],
+    x: u64,
+    wanted: SlotNumber,
+    known: LayoutRead,
+) -> Serving
+    requires { ⌜ Known (now store) (wanted .0) (known .answer) (known .starts) ⌝ }
     ensures { λ r. ⌜ answerOfServing (r .answer) (r .starts) ≡ served write t (now (store .entry)) x ⌝ }
 {
     if write {
-        return write_served(t, store, x);
+        return write_served(t, store, x, wanted, known);
     }
     let read = t.read;
     let h = grant_at(read, x);
     let ReadGrant::Value(g) = h else {
-        return read_from_rw(t, store, x);
+        return read_from_rw(t, store, x, wanted, known);
     };
-    served_by(Iomode::Read, store, g)
+    served_by(Iomode::Read, store, g, wanted, known)
+}
+
+// The slot whose layout body is likely to serve: nothing depends on it but how often that body is read.
+pub(crate) fn likely_slot(write: bool, t: Table, x: u64) -> SlotNumber {
+    if !write {
+        let list = t.read;
+        let h = grant_at(list, x);
+        if let ReadGrant::Value(g) = h {
+            return g.slot;
+        }
+    }
+    let list = t.rw;
+    let h = grant_at(list, x);
+    match h {
+        ReadGrant::Value(g) => g.slot,
+        ReadGrant::Refused(_) => SlotNumber(0),
+    }
 }

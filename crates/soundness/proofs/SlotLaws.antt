@@ -1,17 +1,21 @@
 -- Laws of the soundness of slots: the next slot and the ones behind it, each alone and no two alike.
 use Prim.Native.Nat.{ℕ, suc, _+_, _-_, _≤_, _<_}
-use mathlib.Core.Path.{_≡_, refl}
-use mathlib.Core.Bool.{Bool, true, false, not, _&&_, _||_}
+use mathlib.Core.Path.{_≡_, refl, sym, ap, _∙_}
+use mathlib.Core.Bool.{Bool, true, false, not, _&&_, _||_, and-false}
 use mathlib.Core.List.{List, _∷_}
 use native.Mathlib.Numerals.{add-one}
 use native.Mathlib.Omega.{arith}
-use Rattle.base.specs.Answer.{pick}
+use borrow.Author.Tests.{eqb-false, eqb-true, le-ltb, lt-ltb, ltb-false, ltb-true}
+use lib.Dec.{eqb, ltb}
+use Rattle.base.specs.Answer.{refused, pick}
+use Rattle.layout.specs.Layouts.{layoutBody}
 use Rattle.numbers.specs.Numbers.{sameBytes}
 use Rattle.segments.specs.declared.Table.{Table}
 use Rattle.segments.specs.Segments.{isNamed}
 use Rattle.store.specs.Store.{Body, Slot, empty, holds, bodyIn, slotAt}
 use Rattle.reference.specs.Model.{inSlots}
-use Rattle.reference.specs.Sound.{noTwoAlike, slotSound, slotsFrom, slotsSound}
+use Rattle.reference.specs.Sound.{noTwoAlike, slotSound, slotsFrom, slotsSound, sound}
+use Rattle.soundness.specs.Judgements.{layoutJudged, layoutNamed}
 
 pub slots-next : (t : Table) (store : List ℕ) (n i : ℕ) → i < n
     → slotsSound t store (n - i) i ≡ (slotSound (isNamed t i) (slotAt store i) && slotsSound t store (n - (i + 1)) (i + 1))
@@ -64,3 +68,50 @@ unfolding slotsFrom noTwoAlike
 alike-none t store n i h =
     let e : n - i ≡ 0 = omega arith in
     rw e
+
+-- ---- one slot more
+
+module _ (t : Table) (store : List ℕ) (n i : ℕ) (h : i < n) where
+  pub slot-passed : slotSound (isNamed t i) (slotAt store i) ≡ true → slotsSound t store (n - i) i ≡ slotsSound t store (n - (i + 1)) (i + 1)
+  slot-passed e = rw (slots-next t store n i h, e)
+
+  pub slot-fails : slotSound (isNamed t i) (slotAt store i) ≡ false → slotsSound t store (n - i) i ≡ false
+  slot-fails e = rw (slots-next t store n i h, e)
+
+module _ (t : Table) (store : List ℕ) (w : ℕ) where
+  pub read-none : refused 20 ≡ layoutNamed t store w 0
+  unfolding layoutNamed pick
+  read-none = rw (le-ltb w 0 (omega arith))
+
+  pub read-here : isNamed t w ≡ true → layoutBody (bodyIn (slotAt store w)) ≡ layoutNamed t store w (w + 1)
+  unfolding layoutNamed pick
+  read-here e = rw (lt-ltb w (w + 1) (omega arith), e)
+
+  module _ (i : ℕ) where
+    pub read-elsewhere : (i ≡ w → ⊥) → layoutNamed t store w i ≡ layoutNamed t store w (i + 1)
+    unfolding layoutNamed
+    read-elsewhere n = ap (λ (b : Bool). pick (b && isNamed t w) (layoutBody (bodyIn (slotAt store w))) (refused 20)) (go (ltb w i) refl)
+      where
+        go : (b : Bool) → ltb w i ≡ b → ltb w i ≡ ltb w (i + 1)
+        go true h = let k = ltb-true w i h in h ∙ sym (lt-ltb w (i + 1) (omega arith))
+        go false h = let k = ltb-false w i h in h ∙ sym (le-ltb w (i + 1) (omega arith))
+
+    pub read-unnamed : isNamed t i ≡ false → layoutNamed t store w i ≡ layoutNamed t store w (i + 1)
+    unfolding layoutNamed
+    read-unnamed e = go (eqb i w) refl
+      where
+        go : (b : Bool) → eqb i w ≡ b → layoutNamed t store w i ≡ layoutNamed t store w (i + 1)
+        go true h =
+            let f : isNamed t w ≡ false = ap (isNamed t) (sym (eqb-true i w h)) ∙ e in
+            rw (f, and-false (ltb w i), and-false (ltb w (i + 1)))
+        go false h = read-elsewhere (eqb-false i w h)
+
+  -- ---- the whole judgement
+
+  pub judged-unsound : sound t store ≡ false → layoutJudged t store w ≡ refused 20
+  unfolding layoutJudged pick
+  judged-unsound e = rw e
+
+  pub judged-sound : sound t store ≡ true → layoutJudged t store w ≡ layoutNamed t store w 8
+  unfolding layoutJudged pick
+  judged-sound e = rw e

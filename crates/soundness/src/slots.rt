@@ -1,29 +1,51 @@
 // Whether the slots are sound: a named one holds an accepted body, laid out as said; any other is zero.
+use base::Refusal;
 use base::SlotNumber;
 use layout::LayoutAnswer;
+use layout::LayoutRead;
 ghost use mathlib.Core.Path.{_≡_};
+ghost use mathlib.Core.Bool.{true, false};
+ghost use mathlib.Core.List.{List};
+ghost use Prim.Native.Nat.{ℕ};
+ghost use Rattle.base.specs.Answer.{refused};
+ghost use Rattle.layout.specs.Answers.{answerOfLayout};
 ghost use Rattle.layout.specs.Layouts.{layoutBody};
 ghost use Rattle.segments.specs.declared.Table.{Table};
 ghost use Rattle.lookup.specs.Lookup.{namedSlots};
+ghost use Rattle.store.specs.Store.{bodyIn};
 ghost use Rattle.reference.specs.Sound.{isAccepted, slotSound, slotsSound};
+ghost use Rattle.soundness.specs.Judgements.{layoutNamed};
 
-fn is_accepted(body: &[u8]) -> bool
-    ensures { λ r. ⌜ r ≡ isAccepted (layoutBody (now (body .entry))) ⌝ }
+// `read` is what the layout body in one slot reads as, the one that was asked for: a lookup would read it again. Where nothing was read, it is refused as
+// unsound.
+pub struct Judged {
+    pub read: LayoutRead,
+    pub sound: bool,
+}
+
+pub(crate) fn unsound() -> Judged
+    ensures { λ r. ⌜ (r .sound ≡ false) × (answerOfLayout (r .read .answer) (r .read .starts) ≡ refused 20) ⌝ }
 {
-    let read = layout::read_layout(body);
-    let answer = read.answer;
+    let read = LayoutRead {
+        answer: LayoutAnswer::Refused(Refusal::Unsound),
+        starts: [0u16; 128],
+    };
+    Judged { read, sound: false }
+}
+
+fn is_accepted(answer: LayoutAnswer) -> bool
+    ensures { λ r. ⌜ ((starts : List ℕ) → r ≡ isAccepted (answerOfLayout answer starts)) ⌝ }
+{
     match answer {
         LayoutAnswer::Value(_) => true,
         LayoutAnswer::Refused(_) => false,
     }
 }
 
-fn slot_sound(named: bool, slot: &[u8]) -> bool
-    ensures { λ r. ⌜ r ≡ slotSound named (now (slot .entry)) ⌝ }
+// A named slot. `answer` is what its body reads as.
+fn is_filled(slot: &[u8], answer: LayoutAnswer) -> bool
+    ensures { λ r. ⌜ ((starts : List ℕ) → answerOfLayout answer starts ≡ layoutBody (bodyIn (now (slot .entry))) → r ≡ slotSound true (now (slot .entry))) ⌝ }
 {
-    if !named {
-        return store::all_zero(slot, 0);
-    }
     let n = store::slot_length(slot) as usize;
     if 4090 < n {
         return false;
@@ -31,25 +53,39 @@ fn slot_sound(named: bool, slot: &[u8]) -> bool
     if store::slot_kind(slot) != 4 {
         return false;
     }
-    let body = store::slot_body(slot);
-    if !is_accepted(body) {
+    if !is_accepted(answer) {
         return false;
     }
     store::all_zero(slot, 6 + n)
 }
 
 // `named` says of each slot whether a segment names it.
-pub(crate) fn slots_sound(named: [bool; 8], store: &[u8]) -> bool
-    ensures { λ r. ⌜ ((t : Table) → named ≡ namedSlots t → r ≡ slotsSound t (now (store .entry)) 8 0) ⌝ }
+pub(crate) fn judge_slots(named: [bool; 8], store: &[u8], wanted: u32) -> Judged
+    ensures { λ r. ⌜ ((t : Table) → named ≡ namedSlots t
+        → (r .sound ≡ slotsSound t (now (store .entry)) 8 0)
+        × (r .sound ≡ true → answerOfLayout (r .read .answer) (r .read .starts) ≡ layoutNamed t (now (store .entry)) wanted 8)) ⌝ }
 {
+    let none = unsound();
+    let mut read = none.read;
     let mut i: u32 = 0;
     while i < 8 {
         let k = i as usize;
         let slot = store::slot_bytes(store, SlotNumber(i));
-        if !slot_sound(named[k], slot) {
-            return false;
+        if named[k] {
+            let l = layout::read_layout(store::slot_body(slot));
+            let a = l.answer;
+            if !is_filled(slot, a) {
+                return none;
+            }
+            if i == wanted {
+                read = l;
+            }
+        } else {
+            if !store::all_zero(slot, 0) {
+                return none;
+            }
         }
         i += 1;
     }
-    true
+    Judged { read, sound: true }
 }

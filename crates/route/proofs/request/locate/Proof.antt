@@ -1,7 +1,7 @@
 -- `route::request::locate` meets its contract: soundness, then the range, then what serves.
 use Rattle.base.specs.Answer.{refused}
 use Rattle.base.specs.Ranges.{answerOfLast, whyLast}
-use Rattle.route.proofs.RouteLaws.{is-served, is-unsound, not-served, range-refused}
+use Rattle.route.proofs.RouteLaws.{is-served, is-unsound, judged-known, not-served, range-refused}
 use Rattle.route.proofs.ServedLaws.{served-limits}
 use Rattle.route.specs.Answers.{answerOfServing, whyServing}
 use Rattle.route.specs.declared.rights.ServingAnswer.{ServingAnswer}
@@ -13,13 +13,16 @@ use mathlib.Core.Path.{refl, sym, _∙_}
 use Rattle.route.proofs.request.locate.Statement.{statement}
 use Rattle.route.proofs.request.locate.Tie as tie
 
-sound-requires : tie.Need-sound-requires
-sound-requires c κs = search needs
+likely-slot-requires : tie.Need-likely-slot-requires
+likely-slot-requires c κs = search needs
+
+judge-requires : tie.Need-judge-requires
+judge-requires c κs = search needs
 
 returns : tie.Need-returns
 returns c =
-    let a = c .before .before .before .args in
-    sym (is-unsound (a .write) (a .t) (now (a .store)) (a .offset) (a .len) (sym (c .before .sound .ensures) ∙ not-true _ (c .if1 .taken)))
+    let a = c .before .before .before .before .before .args in
+    sym (is-unsound (a .write) (a .t) (now (a .store)) (a .offset) (a .len) (sym (c .before .before .judge .ensures .0) ∙ not-true _ (c .if1 .taken)))
 
 request-last-requires : tie.Need-request-last-requires
 request-last-requires c κs = search needs
@@ -35,12 +38,14 @@ why-last-requires c κs = search needs
 
 returns-2 : tie.Need-returns-2
 returns-2 c =
-    let a = c .before .before .before .before .before .before .before .args in
-    sym (range-refused (a .write) (a .t) (now (a .store)) (a .offset) (a .len) _ (sym (c .before .before .before .before .before .sound .ensures) ∙ not-false _ (c .before .before .before .before .if1 .left))
+    let a = c .before .before .before .before .before .before .before .before .before .args in
+    sym (range-refused (a .write) (a .t) (now (a .store)) (a .offset) (a .len) _ (sym (c .before .before .before .before .before .before .judge .ensures .0) ∙ not-false _ (c .before .before .before .before .if1 .left))
     (handed answerOfLast whyLast refused (c .before .before .before .request-last .ensures) (c .before .enum-told2 .given .1) (c .why-last .ensures) refl))
 
 find-serving-requires : tie.Need-find-serving-requires
-find-serving-requires c κs = search needs
+find-serving-requires c κs =
+    let a = c .before .before .before .before .before .before .before .before .before .args in
+    judged-known (a .t) (now (a .store)) (c .before .before .before .before .before .before .before .likely-slot .result .0) (c .before .before .before .before .before .before .judge .result .read .answer) (c .before .before .before .before .before .before .judge .result .read .starts) (c .before .before .before .before .before .before .judge .ensures .1)
 
 enum-known-a : tie.Need-enum-known-a
 enum-known-a c = search needs
@@ -53,26 +58,26 @@ why-serving-requires c κs = search needs
 
 returns-3 : tie.Need-returns-3
 returns-3 c =
-    let a = c .before .before .before .before .before .before .before .before .before .before .args in
+    let a = c .before .before .before .before .before .before .before .before .before .before .before .before .before .args in
     let starts = c .before .before .before .find-serving .result .starts in
-    sym (not-served (a .write) (a .t) (now (a .store)) (a .offset) (a .len) _ _ (sym (c .before .before .before .before .before .before .before .before .sound .ensures) ∙ not-false _ (c .before .before .before .before .before .before .before .if1 .left))
-    (came answerOfLast (c .before .before .before .before .before .before .request-last .ensures) (c .before .before .before .before .enum-told .given .1))
+    sym (not-served (a .write) (a .t) (now (a .store)) (a .offset) (a .len) _ _ (sym (c .before .before .before .before .before .before .before .before .before .before .judge .ensures .0) ∙ not-false _ (c .before .before .before .before .before .before .before .before .if1 .left))
+    (came answerOfLast (c .before .before .before .before .before .before .before .request-last .ensures) (c .before .before .before .before .before .enum-told .given .1))
     (handed (λ (x : ServingAnswer). answerOfServing x starts) whyServing refused (c .before .before .before .find-serving .ensures) (c .before .enum-told3 .given .1) (c .why-serving .ensures) refl))
 
 piece-at-requires : tie.Need-piece-at-requires
 piece-at-requires c κs =
-    let a = c .before .before .before .before .before .before .before .before .before .before .before .args in
+    let a = c .before .before .before .before .before .before .before .before .before .before .before .before .before .before .args in
     let starts = c .before .before .before .before .find-serving .result .starts in
     served-limits (a .write) (a .t) (now (a .store)) (a .offset) (a .len) _ _
-    (came answerOfLast (c .before .before .before .before .before .before .before .request-last .ensures) (c .before .before .before .before .before .enum-told .given .1))
+    (came answerOfLast (c .before .before .before .before .before .before .before .before .request-last .ensures) (c .before .before .before .before .before .before .enum-told .given .1))
     (came (λ (x : ServingAnswer). answerOfServing x starts) (c .before .before .before .before .find-serving .ensures) (c .before .before .a .given .1))
 
 returns-4 : tie.Need-returns-4
 returns-4 c =
-    let a = c .before .before .before .before .before .before .before .before .before .before .before .before .args in
+    let a = c .before .before .before .before .before .before .before .before .before .before .before .before .before .before .before .args in
     let starts = c .before .before .before .before .before .find-serving .result .starts in
-    is-served (a .write) (a .t) (now (a .store)) (a .offset) (a .len) _ _ _ (sym (c .before .before .before .before .before .before .before .before .before .before .sound .ensures) ∙ not-false _ (c .before .before .before .before .before .before .before .before .before .if1 .left))
-    (came answerOfLast (c .before .before .before .before .before .before .before .before .request-last .ensures) (c .before .before .before .before .before .before .enum-told .given .1))
+    is-served (a .write) (a .t) (now (a .store)) (a .offset) (a .len) _ _ _ (sym (c .before .before .before .before .before .before .before .before .before .before .before .before .judge .ensures .0) ∙ not-false _ (c .before .before .before .before .before .before .before .before .before .before .if1 .left))
+    (came answerOfLast (c .before .before .before .before .before .before .before .before .before .request-last .ensures) (c .before .before .before .before .before .before .before .enum-told .given .1))
     (came (λ (x : ServingAnswer). answerOfServing x starts) (c .before .before .before .before .before .find-serving .ensures) (c .before .before .before .a .given .1))
     (c .piece-at .ensures)
 
@@ -80,7 +85,8 @@ pub locate-spec : {M : Type 1} → statement M
 locate-spec =
     tie.close
     (tie.spec
-    sound-requires
+    likely-slot-requires
+    judge-requires
     returns
     request-last-requires
     enum-told

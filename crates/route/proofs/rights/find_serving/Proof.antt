@@ -9,7 +9,7 @@ use Rattle.route.proofs.rights.find_serving.Statement.{statement}
 use Rattle.route.proofs.rights.find_serving.Tie as tie
 
 write-served-requires : tie.Need-write-served-requires
-write-served-requires c κs = search needs
+write-served-requires c κs = c .before .before .pre
 
 returns : tie.Need-returns
 returns c = c .write-served .ensures ∙ sym (is-write (now (c .before .before .before .args .store)) (c .before .before .before .args .t) (c .before .before .before .args .x) (c .before .before .before .args .write) (c .before .if1 .taken))
@@ -24,13 +24,13 @@ enum-told : tie.Need-enum-told
 enum-told c = search needs
 
 read-from-rw-requires : tie.Need-read-from-rw-requires
-read-from-rw-requires c κs = search needs
+read-from-rw-requires c κs = c .before .before .before .before .before .before .pre
 
 returns-2 : tie.Need-returns-2
 returns-2 c = c .read-from-rw .ensures ∙ sym (no-read-grant (now (c .before .before .before .before .before .before .before .args .store)) (c .before .before .before .before .before .before .before .args .t) (c .before .before .before .before .before .before .before .args .x) (c .before .before .before .before .before .before .before .args .write) _ (c .before .before .before .before .before .if1 .left) (came answerOfGrant (c .before .before .before .grant-at .ensures) (c .before .enum-told .given .1)))
 
 served-by-requires : tie.Need-served-by-requires
-served-by-requires c κs = search needs
+served-by-requires c κs = c .before .before .before .before .before .before .before .pre
 
 returns-3 : tie.Need-returns-3
 returns-3 c = c .served-by .ensures ∙ sym (read-grant (now (c .before .before .before .before .before .before .before .before .args .store)) (c .before .before .before .before .before .before .before .before .args .t) (c .before .before .before .before .before .before .before .before .args .x) (c .before .before .before .before .before .before .before .before .args .write) _ (c .before .before .before .before .before .before .if1 .left) (came answerOfGrant (c .before .before .before .before .grant-at .ensures) (c .before .before .h .given .1)))

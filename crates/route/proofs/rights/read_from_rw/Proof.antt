@@ -12,7 +12,7 @@ use Rattle.route.proofs.rights.read_from_rw.Statement.{statement}
 use Rattle.route.proofs.rights.read_from_rw.Tie as tie
 
 write-served-requires : tie.Need-write-served-requires
-write-served-requires c κs = search needs
+write-served-requires c κs = c .before .pre
 
 enum-known-a : tie.Need-enum-known-a
 enum-known-a c = search needs

@@ -2,7 +2,7 @@
 use Rattle.base.specs.Answer.{refused}
 use Rattle.layout.specs.Answers.{answerOfLayout, whyLayout}
 use Rattle.layout.specs.declared.body.LayoutAnswer.{LayoutAnswer}
-use Rattle.route.proofs.RouteLaws.{layout-in, layout-read, layout-refused, refused-serving}
+use Rattle.route.proofs.RouteLaws.{layout-read, layout-refused, refused-serving}
 use Rattle.xdr.proofs.Steps.{came, handed}
 use borrow.Author.Needs.{needs}
 use denote.Ref.{now}
@@ -10,14 +10,8 @@ use mathlib.Core.Path.{refl, sym, _∙_}
 use Rattle.route.proofs.rights.served_by.Statement.{statement}
 use Rattle.route.proofs.rights.served_by.Tie as tie
 
-slot-bytes-requires : tie.Need-slot-bytes-requires
-slot-bytes-requires c κs = search needs
-
-slot-body-requires : tie.Need-slot-body-requires
-slot-body-requires c κs = search needs
-
-read-layout-requires : tie.Need-read-layout-requires
-read-layout-requires c κs = search needs
+layout-of-requires : tie.Need-layout-of-requires
+layout-of-requires c κs = c .before .pre
 
 enum-known-a : tie.Need-enum-known-a
 enum-known-a c = search needs
@@ -33,22 +27,18 @@ refused-requires c κs = search needs
 
 returns : tie.Need-returns
 returns c =
-    let e = layout-in (now (c .before .before .before .before .before .before .before .before .args .store)) _ _ (c .before .before .before .before .before .before .before .before .args .g .slot .0) (c .before .before .before .before .before .before .slot-bytes .ensures) (c .before .before .before .before .before .slot-body .ensures) in
     refused-serving _ _ (c .refused .ensures)
-    ∙ sym (layout-refused (now (c .before .before .before .before .before .before .before .before .args .store)) (c .before .before .before .before .before .before .before .before .args .iomode) _ _ (handed (λ (x : LayoutAnswer). answerOfLayout x (c .before .before .before .before .read-layout .result .starts)) whyLayout refused (c .before .before .before .before .read-layout .ensures .0 ∙ e) (c .before .before .enum-told .given .1) (c .before .why-layout .ensures) refl))
+    ∙ sym (layout-refused (now (c .before .before .before .before .before .before .args .store)) (c .before .before .before .before .before .before .args .iomode) _ _ (handed (λ (x : LayoutAnswer). answerOfLayout x (c .before .before .before .before .layout-of .result .starts)) whyLayout refused (c .before .before .before .before .layout-of .ensures) (c .before .before .enum-told .given .1) (c .before .why-layout .ensures) refl))
 
 returns-2 : tie.Need-returns-2
 returns-2 c =
-    let e = layout-in (now (c .before .before .before .before .before .before .before .before .args .store)) _ _ (c .before .before .before .before .before .before .before .before .args .g .slot .0) (c .before .before .before .before .before .before .slot-bytes .ensures) (c .before .before .before .before .before .slot-body .ensures) in
-    sym (layout-read (now (c .before .before .before .before .before .before .before .before .args .store)) (c .before .before .before .before .before .before .before .before .args .iomode) _ _ (came (λ (x : LayoutAnswer). answerOfLayout x (c .before .before .before .before .read-layout .result .starts)) (c .before .before .before .before .read-layout .ensures .0 ∙ e) (c .before .before .a .given .1)))
+    sym (layout-read (now (c .before .before .before .before .before .before .args .store)) (c .before .before .before .before .before .before .args .iomode) _ _ (came (λ (x : LayoutAnswer). answerOfLayout x (c .before .before .before .before .layout-of .result .starts)) (c .before .before .before .before .layout-of .ensures) (c .before .before .a .given .1)))
 
 pub served-by-spec : {M : Type 1} → statement M
 served-by-spec =
     tie.close
     (tie.spec
-    slot-bytes-requires
-    slot-body-requires
-    read-layout-requires
+    layout-of-requires
     enum-known-a
     enum-told
     why-layout-requires

@@ -28,7 +28,7 @@ returns : tie.Need-returns
 returns c = refused-serving _ _ (c .refused .ensures) ∙ sym (no-rw-grant (now (c .before .before .before .before .before .before .before .args .store)) (c .before .before .before .before .before .before .before .args .t) (c .before .before .before .before .before .before .before .args .x) _ (handed answerOfGrant whyGrant refused (c .before .before .before .before .grant-at .ensures) (c .before .before .enum-told .given .1) (c .before .why-grant .ensures) refl))
 
 served-by-requires : tie.Need-served-by-requires
-served-by-requires c κs = search needs
+served-by-requires c κs = c .before .before .before .before .before .before .pre
 
 returns-2 : tie.Need-returns-2
 returns-2 c = c .served-by .ensures ∙ sym (rw-grant (now (c .before .before .before .before .before .before .before .args .store)) (c .before .before .before .before .before .before .before .args .t) (c .before .before .before .before .before .before .before .args .x) _ (came answerOfGrant (c .before .before .before .before .grant-at .ensures) (c .before .before .h .given .1)))

@@ -1,0 +1,19 @@
+-- What the judgement of a table and a store comes to, besides whether they are sound: the layout body in a slot.
+use Prim.Native.Nat.{ℕ}
+use mathlib.Core.Bool.{_&&_}
+use mathlib.Core.List.{List}
+use lib.Dec.{ltb}
+use Rattle.base.specs.Answer.{Answer, refused, pick}
+use Rattle.layout.specs.Layouts.{Layout, layoutBody}
+use Rattle.segments.specs.declared.Table.{Table}
+use Rattle.segments.specs.Segments.{isNamed}
+use Rattle.store.specs.Store.{bodyIn, slotAt}
+use Rattle.reference.specs.Sound.{sound}
+
+-- the layout body in a slot, where it is one of the first n and a segment names it
+unfoldable pub layoutNamed : Table → List ℕ → ℕ → ℕ → Answer Layout
+layoutNamed t store slot n = pick (ltb slot n && isNamed t slot) (layoutBody (bodyIn (slotAt store slot))) (refused 20)
+
+-- "20: table or shelf is unsound", and where no such slot is named
+unfoldable pub layoutJudged : Table → List ℕ → ℕ → Answer Layout
+layoutJudged t store slot = pick (sound t store) (layoutNamed t store slot 8) (refused 20)
