@@ -3,7 +3,7 @@
 use std::hint::black_box;
 use std::time::{Duration, Instant};
 
-pub const ROUNDS: usize = 40;
+pub const ROUNDS: usize = 200;
 pub const ROUND: Duration = Duration::from_millis(1);
 
 /// Makes so many calls and says how long they took.
