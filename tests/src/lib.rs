@@ -8,7 +8,7 @@
 //! Some words of 01 have other names here: its "spoken versions" are
 //! [`binding::SupportedVersions`], its "shelf" is the [`store`], its "pencil
 //! list" the worked examples, and what it calls "lent" is a borrowed slice. Its
-//! [`ledger`] keeps its name.
+//! "ledger", which the documents call the reference model, is a [`ledger`] here.
 
 pub mod answers;
 pub mod binding;
