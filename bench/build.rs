@@ -64,7 +64,9 @@ fn header_folder() -> Result<PathBuf, String> {
 fn run(folder: &Path, program: &str, words: &[&str], name: &str) -> Result<(), String> {
     match Command::new(program).args(words).current_dir(folder).output() {
         Ok(ended) if ended.status.success() => Ok(()),
-        Ok(ended) => Err(format!("{name}, which failed: {}", String::from_utf8_lossy(&ended.stderr).replace('\n', " "))),
+        Ok(ended) => {
+            Err(format!("{name}, which failed: {}", String::from_utf8_lossy(&ended.stderr).replace('\n', " ")))
+        }
         Err(_) => Err(name.to_string()),
     }
 }

@@ -6,7 +6,9 @@ use crate::tuned::layout4::Layout4;
 use crate::tuned::locate::{locate_read, locate_write, Location};
 use independent::cases::{Case, CaseFile, CaseFileWriter};
 use independent::generate::mixed::random_file;
-use independent::generate::{file_ends, granted_bytes, layout4s, layouts, locates, overlaps, segment_limits, slot_limits, unsound};
+use independent::generate::{
+    file_ends, granted_bytes, layout4s, layouts, locates, overlaps, segment_limits, slot_limits, unsound,
+};
 use independent::io_request::{Direction, IoRequest};
 use independent::layout::read_layout_body;
 use independent::layout4::read_layout4;
@@ -74,7 +76,9 @@ impl Both {
     /// A file starts with an empty table.
     fn file(&mut self, file: &[u8]) -> Result<(), String> {
         self.start();
-        CaseFile::new(file).enumerate().try_for_each(|(number, case)| self.case(&case).map_err(|what| format!("case {number}: {what}")))
+        CaseFile::new(file)
+            .enumerate()
+            .try_for_each(|(number, case)| self.case(&case).map_err(|what| format!("case {number}: {what}")))
     }
 
     fn case(&mut self, case: &Case) -> Result<(), String> {
@@ -140,7 +144,13 @@ fn number(refusal: Refusal) -> u32 {
 
 fn plain_layout(body: &[u8]) -> Result<tuned::layout::Layout, u32> {
     let read = read_layout_body(body).map_err(number)?;
-    let summary = tuned::layout::Summary { unit: read.unit, mirrors: read.mirrors, servers: read.servers, flags: read.flags, hint: read.hint };
+    let summary = tuned::layout::Summary {
+        unit: read.unit,
+        mirrors: read.mirrors,
+        servers: read.servers,
+        flags: read.flags,
+        hint: read.hint,
+    };
     Ok(tuned::layout::Layout { summary, starts: read.starts })
 }
 

@@ -96,7 +96,8 @@ impl<'a> Trial<'a> {
             refusal
         };
         let by_value = move || {
-            let refusal = by_value_event(*black_box(&held.core), black_box(&mut by_value_store), black_box(event)).refusal;
+            let refusal =
+                by_value_event(*black_box(&held.core), black_box(&mut by_value_store), black_box(event)).refusal;
             by_value_store[..original.len()].copy_from_slice(original);
             refusal
         };
@@ -110,7 +111,11 @@ impl<'a> Trial<'a> {
         let (mut plain, mut tuned) = (held.plain.clone(), held.tuned);
         let core = core_event(held.core, &mut store, event);
         let by_value = by_value_event(held.core, &mut by_value_store, event);
-        let answers = [core.refusal, plain_event(&mut plain, &mut plain_store, event), tuned_event(&mut tuned, &mut tuned_store, event)];
+        let answers = [
+            core.refusal,
+            plain_event(&mut plain, &mut plain_store, event),
+            tuned_event(&mut tuned, &mut tuned_store, event),
+        ];
         assert_eq!(answers, [self.answer; 3], "{}", self.work);
         assert!(by_value == core && by_value_store == store, "{}: by value", self.work);
         assert!(core.table == core_form(&plain) && tuned == tuned_form(&plain), "{}: tables differ", self.work);

@@ -45,14 +45,26 @@ pub fn tuned_event(table: &mut tuned::table::Table, store: &mut [u8], event: &Ev
 
 pub fn plain_location(table: &Table, store: &[u8], request: &IoRequest) -> Result<Location, u32> {
     let found = locate(table, store, request).map_err(|refusal| u32::from(refusal.number()))?;
-    Ok(Location { iomode: found.iomode.number(), slot: found.slot, stripe: found.stripe, offset: found.offset, length: found.length, mirrors: found.mirrors })
+    Ok(Location {
+        iomode: found.iomode.number(),
+        slot: found.slot,
+        stripe: found.stripe,
+        offset: found.offset,
+        length: found.length,
+        mirrors: found.mirrors,
+    })
 }
 
 /// The counts are those of the places before the first blank one.
 pub fn core_form(table: &Table) -> TableRecord {
     let places = |iomode| table.places(iomode).each_ref().map(core_segment);
     let count = |iomode| table.segments(iomode).len() as u64;
-    TableRecord { read: places(Iomode::Read), rw: places(Iomode::ReadWrite), read_count: count(Iomode::Read), rw_count: count(Iomode::ReadWrite) }
+    TableRecord {
+        read: places(Iomode::Read),
+        rw: places(Iomode::ReadWrite),
+        read_count: count(Iomode::Read),
+        rw_count: count(Iomode::ReadWrite),
+    }
 }
 
 fn core_segment(segment: &Segment) -> SegmentRecord {
@@ -65,7 +77,10 @@ fn core_segment(segment: &Segment) -> SegmentRecord {
 }
 
 pub fn tuned_form(table: &Table) -> tuned::table::Table {
-    let list = |iomode| tuned::table::Segments { places: table.places(iomode).each_ref().map(tuned_segment), count: table.segments(iomode).len() };
+    let list = |iomode| tuned::table::Segments {
+        places: table.places(iomode).each_ref().map(tuned_segment),
+        count: table.segments(iomode).len(),
+    };
     tuned::table::Table { read: list(Iomode::Read), rw: list(Iomode::ReadWrite) }
 }
 

@@ -22,7 +22,9 @@ fn main() -> ExitCode {
     match agreement::compare() {
         Ok(said) => println!("{said}\n"),
         Err(difference) => {
-            eprintln!("Nothing was measured: the tuned Rust differs from the independent implementation.\n{difference}");
+            eprintln!(
+                "Nothing was measured: the tuned Rust differs from the independent implementation.\n{difference}"
+            );
             return ExitCode::FAILURE;
         }
     }

@@ -47,9 +47,13 @@ pub fn row() -> (Row, String) {
     let forms = &times[3..];
     let fastest = forms.iter().copied().fold(f64::MAX, f64::min);
     let work = "scan of the store, 32,512 bytes (a difference, see above)".to_string();
-    let row = Row { work, core: times[0] - times[1], plain: forms[0], tuned: Some(fastest), by_value: None, rpcgen: None };
+    let row =
+        Row { work, core: times[0] - times[1], plain: forms[0], tuned: Some(fastest), by_value: None, rpcgen: None };
     row.print();
     let said: Vec<String> = FORMS.iter().zip(forms).map(|((name, _), time)| format!("{name} {time:.0} ns")).collect();
-    let crossing = format!("A lookup with a store of another length, which is refused before anything is looked at: {:.0} ns.", times[2]);
+    let crossing = format!(
+        "A lookup with a store of another length, which is refused before anything is looked at: {:.0} ns.",
+        times[2]
+    );
     (row, format!("Forms of the scan in Rust: {}.\n\n{crossing}", said.join("; ")))
 }

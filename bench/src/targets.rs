@@ -14,21 +14,36 @@ pub fn print(layouts: &[(usize, Row)], scan: &Row, tables: &[Row]) {
     for (length, most) in LAYOUTS {
         for (_, row) in layouts.iter().filter(|(of, _)| *of == length) {
             at_most(&format!("{}, of plain Rust's time", row.work), most, row.core / row.plain);
-            row.tuned.iter().for_each(|tuned| at_most(&format!("{}, of tuned Rust's time", row.work), most, row.core / tuned));
+            row.tuned
+                .iter()
+                .for_each(|tuned| at_most(&format!("{}, of tuned Rust's time", row.work), most, row.core / tuned));
         }
     }
     for (_, row) in layouts {
         match row.rpcgen {
             Some(rpcgen) => line(
                 rpcgen / row.core >= FASTER_THAN_RPCGEN,
-                &format!("{}, at least {FASTER_THAN_RPCGEN} times as fast as rpcgen: {:.1}", row.work, rpcgen / row.core),
+                &format!(
+                    "{}, at least {FASTER_THAN_RPCGEN} times as fast as rpcgen: {:.1}",
+                    row.work,
+                    rpcgen / row.core
+                ),
             ),
             None => println!("- not measured: {} against rpcgen", row.work),
         }
     }
-    scan.tuned.iter().for_each(|fastest| at_most("scan of the store, of the fastest Rust's time", SCAN, scan.core / fastest));
-    worst("each event and lookup, of tuned Rust's time", TUNED, tables, |row| row.core / row.tuned.unwrap_or(row.plain));
-    worst("each event and lookup, of the time of tuned Rust by value (no target of the customer's)", TUNED, tables, |row| row.core / row.by_value.unwrap_or(row.plain));
+    scan.tuned
+        .iter()
+        .for_each(|fastest| at_most("scan of the store, of the fastest Rust's time", SCAN, scan.core / fastest));
+    worst("each event and lookup, of tuned Rust's time", TUNED, tables, |row| {
+        row.core / row.tuned.unwrap_or(row.plain)
+    });
+    worst(
+        "each event and lookup, of the time of tuned Rust by value (no target of the customer's)",
+        TUNED,
+        tables,
+        |row| row.core / row.by_value.unwrap_or(row.plain),
+    );
     worst("each event and lookup, of plain Rust's time", PLAIN, tables, |row| row.core / row.plain);
 }
 
@@ -44,5 +59,12 @@ fn worst(work: &str, most: f64, rows: &[Row], ratio: impl Fn(&Row) -> f64) {
     let Some(row) = rows.iter().max_by(|one, other| ratio(one).total_cmp(&ratio(other))) else { return };
     let above = rows.iter().filter(|row| ratio(row) > most).count();
     let figure = ratio(row);
-    line(above == 0, &format!("{work} at most {most:.1} times: {figure:.2} at worst ({}); {above} of {} rows are above", row.work, rows.len()));
+    line(
+        above == 0,
+        &format!(
+            "{work} at most {most:.1} times: {figure:.2} at worst ({}); {above} of {} rows are above",
+            row.work,
+            rows.len()
+        ),
+    );
 }

@@ -31,14 +31,23 @@ fn layout(body: &[u8]) -> Row {
 pub fn device() -> Row {
     assert!(raw::read_device(DEVICE).refusal == 0 && read_device_body(DEVICE).is_ok() && rpcgen::read_device(DEVICE));
     let name = format!("device body of {} bytes", DEVICE.len());
-    Race::new(&name, || raw::read_device(black_box(DEVICE)), || read_device_body(black_box(DEVICE))).rpcgen(|| rpcgen::read_device(black_box(DEVICE))).run()
+    Race::new(&name, || raw::read_device(black_box(DEVICE)), || read_device_body(black_box(DEVICE)))
+        .rpcgen(|| rpcgen::read_device(black_box(DEVICE)))
+        .run()
 }
 
 pub fn binding() -> Row {
     let layout = three_mirrors();
     let start = usize::from(raw::read_layout(layout).starts[0]);
     let device_id: [u8; 16] = layout[start..start + 16].try_into().expect("16 bytes");
-    let request = BindRequest { mirror: 0, stripe: 0, supported_versions: 15, device_id, layout_body: layout, device_body: DEVICE };
+    let request = BindRequest {
+        mirror: 0,
+        stripe: 0,
+        supported_versions: 15,
+        device_id,
+        layout_body: layout,
+        device_body: DEVICE,
+    };
     assert!(bind(&request).is_ok() && raw::bind(layout, 0, 0, DEVICE, &device_id, 15).refusal == 0);
     let core = || raw::bind(black_box(layout), 0, 0, black_box(DEVICE), &device_id, 15);
     Race::new("binding, 3 mirrors", core, || bind(black_box(&request))).run()
@@ -54,14 +63,21 @@ pub fn reports_read() -> Row {
     let body = report_body();
     assert!(raw::read_reports(&body).refusal == 0 && read_reports(&body).is_ok() && rpcgen::read_reports(&body));
     let name = format!("report body of {} bytes, read", body.len());
-    Race::new(&name, || raw::read_reports(black_box(&body)), || read_reports(black_box(&body))).rpcgen(|| rpcgen::read_reports(black_box(&body))).run()
+    Race::new(&name, || raw::read_reports(black_box(&body)), || read_reports(black_box(&body)))
+        .rpcgen(|| rpcgen::read_reports(black_box(&body)))
+        .run()
 }
 
 pub fn reports_written() -> Row {
     let body = report_body();
     let read = read_reports(&body).expect("a good body");
     let heads: [ReportHead; 8] = read.heads.try_into().expect("eight reports");
-    let head = |h: &ReportHead| raw::ReportHead { offset: h.offset, length: h.length, stateid: h.stateid, errors: h.error_count };
+    let head = |h: &ReportHead| raw::ReportHead {
+        offset: h.offset,
+        length: h.length,
+        stateid: h.stateid,
+        errors: h.error_count,
+    };
     let records = ReportHeads { heads: heads.each_ref().map(head) };
     let record = |e: &DeviceError| ErrorRecord { device: e.device_id, status: e.status, operation: e.operation };
     let errors: Vec<ErrorRecord> = read.errors.iter().map(record).collect();
@@ -69,7 +85,13 @@ pub fn reports_written() -> Row {
     let [ours, plain, generated] = &mut outputs;
     raw::write_report(8, records, &errors, ours);
     assert!(write_reports(8, &heads, &read.errors, plain) == Ok(body.len()) && rpcgen::keep_reports(&body));
-    assert!(*ours == body && *plain == body && (!cfg!(rpcgen) || rpcgen::write_reports(generated) == body.len() && *generated == body));
+    assert!(
+        *ours == body
+            && *plain == body
+            && (!cfg!(rpcgen) || rpcgen::write_reports(generated) == body.len() && *generated == body)
+    );
     let core = || raw::write_report(8, records, black_box(&errors), ours).length;
-    Race::new("the same, written", core, || write_reports(8, &heads, black_box(&read.errors), plain)).rpcgen(|| rpcgen::write_reports(generated)).run()
+    Race::new("the same, written", core, || write_reports(8, &heads, black_box(&read.errors), plain))
+        .rpcgen(|| rpcgen::write_reports(generated))
+        .run()
 }

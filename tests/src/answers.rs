@@ -55,9 +55,7 @@ fn line<T>(name: &str, outcome: Result<T, Refusal>, text: impl Fn(&T) -> String)
 fn summary_text(summary: &LayoutSummary) -> String {
     let LayoutSummary { unit, mirrors, servers, flags, hint, starts } = summary;
     let starts = joined(starts.iter(), ",", |start| start.to_string());
-    format!(
-        "unit={unit} mirrors={mirrors} servers={servers} flags={flags} hint={hint} starts={starts}"
-    )
+    format!("unit={unit} mirrors={mirrors} servers={servers} flags={flags} hint={hint} starts={starts}")
 }
 
 fn layout4_text(layout: &Layout4) -> String {
@@ -120,10 +118,7 @@ fn reports_text(reports: &Reports) -> String {
         let (own, later) = rest.split_at(head.error_count as usize);
         let stateid = hex(&head.stateid);
         let errors = joined(own.iter(), "+", error_text);
-        text.push_str(&format!(
-            " offset={},length={},stateid={stateid},errors={errors}",
-            head.offset, head.length
-        ));
+        text.push_str(&format!(" offset={},length={},stateid={stateid},errors={errors}", head.offset, head.length));
         rest = later;
     }
     text
@@ -156,9 +151,7 @@ mod tests {
     use crate::binding::BindRequest;
     use crate::cases::CaseFileWriter;
     use crate::event::Event;
-    use crate::generate::bodies::{
-        encode_reports, DevicePlan, Layout4Head, LayoutPlan, ReportPlan, ServerPlan,
-    };
+    use crate::generate::bodies::{encode_reports, DevicePlan, Layout4Head, LayoutPlan, ReportPlan, ServerPlan};
     use crate::report::ReportHead;
     use crate::table_cases::TableCase;
 
@@ -213,10 +206,7 @@ mod tests {
             }))
         };
         assert_eq!(line([4, 1, 1, 1, 1], 4), "bind entry=0 version=4.1 filehandle=60+1 stateid=36");
-        assert_eq!(
-            line([3, 0, 1, 1, 0], 1),
-            "bind entry=0 version=3.0 filehandle=60+1 user=68+0 group=72+0"
-        );
+        assert_eq!(line([3, 0, 1, 1, 0], 1), "bind entry=0 version=3.0 filehandle=60+1 user=68+0 group=72+0");
         assert_eq!(line([3, 0, 1, 1, 0], 0), "bind refused 14");
     }
 
@@ -224,15 +214,11 @@ mod tests {
     fn report_read_lines() {
         assert_eq!(answer_line(&Case::ReportRead(&[0; 8])), "report-read reports=0");
         let error = DeviceError { device_id: [0xab; 16], status: 5, operation: 25 };
-        let report =
-            ReportPlan { offset: 1, length: 2, stateid: [0x0c; 16], errors: vec![error; 2] };
+        let report = ReportPlan { offset: 1, length: 2, stateid: [0x0c; 16], errors: vec![error; 2] };
         let error = format!("{}/5/25", "ab".repeat(16));
         assert_eq!(
             answer_line(&Case::ReportRead(&encode_reports(&[report], 0).bytes)),
-            format!(
-                "report-read reports=1 offset=1,length=2,stateid={},errors={error}+{error}",
-                "0c".repeat(16)
-            )
+            format!("report-read reports=1 offset=1,length=2,stateid={},errors={error}+{error}", "0c".repeat(16))
         );
         assert_eq!(answer_line(&Case::ReportRead(&[255; 8])), "report-read refused 8");
     }

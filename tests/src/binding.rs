@@ -85,11 +85,7 @@ pub fn bind(request: &BindRequest) -> Result<Binding, Refusal> {
 /// 13 "device id, or filehandle and version counts, differ in binding". RFC
 /// 8435: "There MUST be exactly as many elements in ffds_fh_vers as there are
 /// in ffda_versions."
-fn check_device(
-    server: &Server,
-    device_id: &[u8; 16],
-    versions: &[VersionEntry],
-) -> Result<(), Refusal> {
+fn check_device(server: &Server, device_id: &[u8; 16], versions: &[VersionEntry]) -> Result<(), Refusal> {
     let counts_agree = server.filehandle_count as usize == versions.len();
     if server.device_id == *device_id && counts_agree {
         Ok(())
@@ -99,15 +95,8 @@ fn check_device(
 }
 
 /// "The first device entry spoken is chosen, and the filehandle at its place."
-fn choose_entry(
-    versions: &[VersionEntry],
-    supported: SupportedVersions,
-) -> Result<(usize, &VersionEntry), Refusal> {
-    versions
-        .iter()
-        .enumerate()
-        .find(|(_, entry)| supported.includes(entry))
-        .ok_or(Refusal::NoSupportedVersion)
+fn choose_entry(versions: &[VersionEntry], supported: SupportedVersions) -> Result<(usize, &VersionEntry), Refusal> {
+    versions.iter().enumerate().find(|(_, entry)| supported.includes(entry)).ok_or(Refusal::NoSupportedVersion)
 }
 
 /// 15 "the chosen entry is version 4, not tight, and the server's stateid is
@@ -133,8 +122,7 @@ fn identity_of(server: &Server, entry: &VersionEntry) -> Identity {
 mod tests {
     use super::*;
     use crate::generate::bodies::{
-        fixed_pattern, DevicePlan, LayoutPlan, ServerPlan, VersionPlan, LOOSE_VERSIONS,
-        TIGHT_VERSIONS,
+        fixed_pattern, DevicePlan, LayoutPlan, ServerPlan, VersionPlan, LOOSE_VERSIONS, TIGHT_VERSIONS,
     };
 
     /// One server with a filehandle for each version, bound to its device.

@@ -136,8 +136,7 @@ fn parse_report_write(payload: &[u8]) -> Option<ReportWrite> {
         *head = parse_report_head(&mut fields)?;
     }
     let list_length = fields.u32_up_to(ERROR_LIST_LIMIT)?;
-    let errors =
-        (0..list_length).map(|_| parse_device_error(&mut fields)).collect::<Option<Vec<_>>>()?;
+    let errors = (0..list_length).map(|_| parse_device_error(&mut fields)).collect::<Option<Vec<_>>>()?;
     fields.rest.is_empty().then_some(ReportWrite { output_length, report_count, heads, errors })
 }
 
@@ -152,11 +151,7 @@ fn parse_report_head(fields: &mut Fields) -> Option<ReportHead> {
 
 /// "device id (16), status (LE4), operation (LE4)"
 fn parse_device_error(fields: &mut Fields) -> Option<DeviceError> {
-    Some(DeviceError {
-        device_id: fields.fixed()?,
-        status: fields.u32()?,
-        operation: fields.u32()?,
-    })
+    Some(DeviceError { device_id: fields.fixed()?, status: fields.u32()?, operation: fields.u32()? })
 }
 
 /// A case file being made.
@@ -307,8 +302,7 @@ mod tests {
         assert_eq!(ending(&record(69, &[&good[..], &[0]].concat())), Ending::Stop(0));
         let long_output = [&[1, 16, 0, 0][..], &good[4..]].concat();
         assert_eq!(ending(&record(69, &long_output)), Ending::Stop(0));
-        let list =
-            |length: u8| [&good[..8], &[length, 0, 0, 0], &vec![0; length as usize * 24]].concat();
+        let list = |length: u8| [&good[..8], &[length, 0, 0, 0], &vec![0; length as usize * 24]].concat();
         assert_eq!(ending(&record(69, &list(128))), Ending::End(18 + 128 * 24));
         assert_eq!(ending(&record(69, &list(129))), Ending::Stop(0));
     }
@@ -320,9 +314,7 @@ mod tests {
             payload.extend(count.to_le_bytes());
             payload.extend([0; 8 * 36 + 4]);
             let bytes = record(69, &payload);
-            let Some(Case::ReportWrite(case)) = CaseFile::new(&bytes).next() else {
-                panic!("no case")
-            };
+            let Some(Case::ReportWrite(case)) = CaseFile::new(&bytes).next() else { panic!("no case") };
             assert_eq!(case.report_count, count);
         }
     }

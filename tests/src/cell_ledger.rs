@@ -45,20 +45,14 @@ impl CellLedger {
                 }
             }
             Event::Recall(numbers) => after.recall(numbers)?,
-            Event::Revoke => after
-                .cells
-                .iter_mut()
-                .for_each(|cell| cell.rights = [BodyRight::None, BodyRight::None]),
+            Event::Revoke => after.cells.iter_mut().for_each(|cell| cell.rights = [BodyRight::None, BodyRight::None]),
         }
         if (1..=2).any(|iomode| after.segments(iomode).len() > 32) {
             return Err(Refusal::TooManySegments);
         }
         let cells = &after.cells;
         let named = |body: &[u8]| {
-            cells
-                .iter()
-                .flat_map(|cell| &cell.rights)
-                .any(|right| right.body().is_some_and(|held| held == body))
+            cells.iter().flat_map(|cell| &cell.rights).any(|right| right.body().is_some_and(|held| held == body))
         };
         after.slots.empty_unless(named);
         *self = after;
@@ -67,8 +61,7 @@ impl CellLedger {
 
     fn grant(&mut self, bytes: &[u8]) -> Result<(), Refusal> {
         let layout = read_layout4(bytes)?;
-        let numbers =
-            RangeNumbers { offset: layout.offset, length: layout.length, iomode: layout.iomode };
+        let numbers = RangeNumbers { offset: layout.offset, length: layout.length, iomode: layout.iomode };
         let body = layout.body(bytes);
         let mut covered = self.rights_covered(&numbers)?;
         if covered.iter().any(|right| right.is_held_under_another(body)) {

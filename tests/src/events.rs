@@ -34,8 +34,7 @@ fn grant(table: &mut Table, store: &mut [u8], bytes: &[u8]) -> Result<(), Refusa
     let iomode = Iomode::single(layout.iomode).ok_or(Refusal::IomodeNotAllowed)?;
     let body = layout.body(bytes);
     let own_slot = slot_holding(table, store, body);
-    let met: Vec<&Segment> =
-        table.segments(iomode).iter().filter(|segment| segment.meets(range)).collect();
+    let met: Vec<&Segment> = table.segments(iomode).iter().filter(|segment| segment.meets(range)).collect();
     // Where no slot holds the body, every held byte is under another one.
     if met.iter().any(|segment| segment.right.slot() != own_slot) {
         return Err(Refusal::HeldUnderAnotherBody);
@@ -53,11 +52,7 @@ fn grant(table: &mut Table, store: &mut [u8], bytes: &[u8]) -> Result<(), Refusa
 }
 
 /// "A return makes its range none; a return of bytes not held is accepted."
-fn layout_return(
-    table: &mut Table,
-    store: &mut [u8],
-    numbers: &RangeNumbers,
-) -> Result<(), Refusal> {
+fn layout_return(table: &mut Table, store: &mut [u8], numbers: &RangeNumbers) -> Result<(), Refusal> {
     let range = byte_range(numbers.offset, numbers.length)?;
     let mut after = table.clone();
     for &iomode in iomodes_acted_on(numbers.iomode)? {
@@ -72,8 +67,7 @@ fn layout_return(
 fn recall(table: &mut Table, store: &mut [u8], numbers: &RangeNumbers) -> Result<(), Refusal> {
     let range = byte_range(numbers.offset, numbers.length)?;
     let iomodes = iomodes_acted_on(numbers.iomode)?;
-    let meets_any =
-        |&iomode: &Iomode| table.segments(iomode).iter().any(|segment| segment.meets(range));
+    let meets_any = |&iomode: &Iomode| table.segments(iomode).iter().any(|segment| segment.meets(range));
     if !iomodes.iter().any(meets_any) {
         return Err(Refusal::NothingToRecall);
     }

@@ -78,8 +78,7 @@ impl Ledger {
     fn after_recall(&self, numbers: &RangeNumbers) -> Result<Ledger, Refusal> {
         let range = byte_range(numbers.offset, numbers.length)?;
         let iomodes = iomodes_acted_on(numbers.iomode)?;
-        let is_held_in =
-            |&iomode: &Iomode| self.rights_in(iomode, range).iter().any(|right| right.is_held());
+        let is_held_in = |&iomode: &Iomode| self.rights_in(iomode, range).iter().any(|right| right.is_held());
         if !iomodes.iter().any(is_held_in) {
             return Err(Refusal::NothingToRecall);
         }
@@ -106,9 +105,7 @@ impl Ledger {
     /// Every right that some byte of the range has.
     fn rights_in(&self, iomode: Iomode, range: ByteRange) -> Vec<&BodyRight> {
         let later = self.rights[iomode.index()].range(range.first..=range.last);
-        std::iter::once(self.right_at(iomode, range.first))
-            .chain(later.map(|(_, right)| right))
-            .collect()
+        std::iter::once(self.right_at(iomode, range.first)).chain(later.map(|(_, right)| right)).collect()
     }
 
     /// Changes the right of every byte of the range.
@@ -170,9 +167,7 @@ mod tests {
         assert_eq!(ledger.apply(&Event::Grant(head.around(&body))), Ok(()));
         assert_eq!(ledger.apply(&Event::Recall(numbers(15, u64::MAX, 3))), Ok(()));
         let granted = BodyRight::Granted(body.clone());
-        for (byte, right) in
-            [(9, BodyRight::None), (10, granted.clone()), (14, granted), (20, BodyRight::None)]
-        {
+        for (byte, right) in [(9, BodyRight::None), (10, granted.clone()), (14, granted), (20, BodyRight::None)] {
             assert_eq!(*ledger.right_at(Iomode::Read, byte), right);
             assert_eq!(*ledger.right_at(Iomode::ReadWrite, byte), BodyRight::None);
         }

@@ -5,9 +5,7 @@
 
 use crate::io_request::{Direction, IoRequest};
 use crate::iomode::Iomode;
-use crate::layout::{
-    read_layout_body, read_server_at, LayoutSummary, NO_READ_IO, WRITE_ONE_MIRROR,
-};
+use crate::layout::{read_layout_body, read_server_at, LayoutSummary, NO_READ_IO, WRITE_ONE_MIRROR};
 use crate::range::check_io_range;
 use crate::refusal::Refusal;
 use crate::segments::{Right, Segment};
@@ -61,9 +59,8 @@ fn source_of<'a>(table: &Table, store: &'a [u8], request: &IoRequest) -> Option<
     let granted = |iomode| granted_at(table, store, iomode, request.offset);
     match request.direction {
         Direction::Write => granted(Iomode::ReadWrite),
-        Direction::Read => granted(Iomode::Read).or_else(|| {
-            granted(Iomode::ReadWrite).filter(|source| source.layout.flags & NO_READ_IO == 0)
-        }),
+        Direction::Read => granted(Iomode::Read)
+            .or_else(|| granted(Iomode::ReadWrite).filter(|source| source.layout.flags & NO_READ_IO == 0)),
     }
 }
 
@@ -116,9 +113,8 @@ fn mirrors_of(source: &Source, direction: Direction) -> Result<u32, Refusal> {
 /// the efficiency of its first data server"
 fn best_mirror(body: &[u8], layout: &LayoutSummary) -> Result<u32, Refusal> {
     // Every mirror of an accepted body has a first server.
-    let efficiency = |mirror| -> Result<u32, Refusal> {
-        Ok(read_server_at(body, layout.start(mirror, 0)?)?.efficiency)
-    };
+    let efficiency =
+        |mirror| -> Result<u32, Refusal> { Ok(read_server_at(body, layout.start(mirror, 0)?)?.efficiency) };
     let mut best = 0;
     for mirror in 1..layout.mirrors {
         if efficiency(mirror)? > efficiency(best)? {
@@ -214,8 +210,7 @@ mod tests {
     fn pieces_end_with_the_request_or_the_segment() {
         let one = LayoutPlan::plain(1, 1);
         let state = after(&[granted(2, 10, 19, &one), granted(2, 30, LAST_BYTE, &one)]);
-        for (offset, length, expected) in
-            [(10, 9, 9), (10, 10, 10), (10, 11, 10), (15, LAST_BYTE - 15, 5), (19, 2, 1)]
+        for (offset, length, expected) in [(10, 9, 9), (10, 10, 10), (10, 11, 10), (15, LAST_BYTE - 15, 5), (19, 2, 1)]
         {
             assert_eq!(piece(&state, offset, length), expected);
         }
@@ -231,14 +226,9 @@ mod tests {
     #[test]
     fn pieces_end_with_the_unit() {
         let state = after(&[granted(2, 7, 95, &striped(10, 3))]);
-        for (offset, length, expected, stripe) in [
-            (7, 50, 3, 0),
-            (10, 50, 10, 1),
-            (19, 50, 1, 1),
-            (20, 9, 9, 2),
-            (30, 11, 10, 0),
-            (90, 50, 6, 0),
-        ] {
+        for (offset, length, expected, stripe) in
+            [(7, 50, 3, 0), (10, 50, 10, 1), (19, 50, 1, 1), (20, 9, 9, 2), (30, 11, 10, 0), (90, 50, 6, 0)]
+        {
             let found = state.locate(&IoRequest::write(offset, length)).unwrap();
             assert_eq!((found.length, found.stripe, found.offset), (expected, stripe, offset));
         }
@@ -276,8 +266,7 @@ mod tests {
         ];
         for (efficiencies, best) in patterns {
             let all = (1 << efficiencies.len()) - 1;
-            for (servers, flags, written) in [(1, 0, all), (2, 7, all), (1, 8, best), (2, 15, best)]
-            {
+            for (servers, flags, written) in [(1, 0, all), (2, 7, all), (1, 8, best), (2, 15, best)] {
                 let plain = LayoutPlan::plain(efficiencies.len(), servers);
                 let plan = LayoutPlan { flags, ..with_efficiencies(plain, efficiencies) };
                 let events = [IOMODE_READ, IOMODE_RW].map(|m| granted(m, 0, LAST_BYTE, &plan));

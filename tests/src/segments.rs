@@ -64,11 +64,7 @@ impl Segment {
 }
 
 /// The list after every right inside the range was changed.
-pub fn with_rights_changed(
-    list: &[Segment],
-    range: ByteRange,
-    change: impl Fn(Right) -> Right,
-) -> Vec<Segment> {
+pub fn with_rights_changed(list: &[Segment], range: ByteRange, change: impl Fn(Right) -> Right) -> Vec<Segment> {
     let mut parts = cut_at_ends(list, range);
     for part in parts.iter_mut().filter(|part| part.meets(range)) {
         part.right = change(part.right);

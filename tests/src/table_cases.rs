@@ -185,9 +185,7 @@ mod tests {
         assert!(!has_form(77, &[1, 128, 0, 0]));
         let good = encode_segment(Iomode::Read, 31, &Segment::default());
         // Iomode, place, right and slot, each with its limits.
-        for (at, inside, outside) in
-            [(0, [1, 2], [0, 3]), (4, [0, 31], [32, 255]), (24, [1, 2], [3, 255])]
-        {
+        for (at, inside, outside) in [(0, [1, 2], [0, 3]), (4, [0, 31], [32, 255]), (24, [1, 2], [3, 255])] {
             let with = |value| {
                 let mut payload = good.clone();
                 payload[at] = value;

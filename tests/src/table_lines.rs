@@ -63,8 +63,7 @@ fn location_text(location: &Location) -> String {
 }
 
 fn table_line(table: &Table) -> String {
-    let list =
-        |iomode| table.segments(iomode).iter().map(segment_text).collect::<Vec<_>>().join(",");
+    let list = |iomode| table.segments(iomode).iter().map(segment_text).collect::<Vec<_>>().join(",");
     format!("table read={} rw={}", list(Iomode::Read), list(Iomode::ReadWrite))
 }
 

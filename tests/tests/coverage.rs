@@ -64,8 +64,7 @@ fn assert_each_name_is_accepted_and_refused(answers: &str) {
 
 /// Tables in which an iomode has 32 segments, and stores with 8 bodies.
 fn assert_limits_are_reached(answers: &str) {
-    let lists =
-        answers.lines().filter(|line| line.starts_with("table ")).flat_map(|line| line.split(' '));
+    let lists = answers.lines().filter(|line| line.starts_with("table ")).flat_map(|line| line.split(' '));
     let full_lists = lists.filter(|list| list.matches(',').count() == 31).count();
     assert!(full_lists >= 10, "{full_lists} lists of 32 segments");
     let stores = answers.lines().filter(|line| line.starts_with("shelf "));
@@ -95,11 +94,8 @@ fn assert_requests_are_answered(answers: &str) {
 
 /// Every slot, many stripes and sets of mirrors, and pieces of many lengths.
 fn assert_requests_vary(answers: &str) {
-    let requests: Vec<Vec<&str>> = answers
-        .lines()
-        .filter(|line| line.contains("-at iomode="))
-        .map(|line| line.split(' ').collect())
-        .collect();
+    let requests: Vec<Vec<&str>> =
+        answers.lines().filter(|line| line.contains("-at iomode=")).map(|line| line.split(' ').collect()).collect();
     for (place, least) in [(2, 8), (3, 10), (4, 200), (5, 100), (6, 8)] {
         let values: BTreeSet<&str> = requests.iter().map(|words| words[place]).collect();
         assert!(values.len() >= least, "only {values:?}");

@@ -66,8 +66,7 @@ fn counted(number: usize) -> Vec<(u32, u32)> {
 fn chosen_mirrors(number: usize, direction: Direction) -> u32 {
     let (_, _, efficiencies, flags) = LAYOUTS[number];
     let best = efficiencies.iter().position(|one| efficiencies.iter().all(|other| other <= one));
-    let is_chosen =
-        |mirror: usize| (direction == Direction::Write && flags & 8 == 0) || Some(mirror) == best;
+    let is_chosen = |mirror: usize| (direction == Direction::Write && flags & 8 == 0) || Some(mirror) == best;
     (0..efficiencies.len()).filter(|&mirror| is_chosen(mirror)).map(|mirror| 1 << mirror).sum()
 }
 
@@ -94,9 +93,7 @@ fn expected(both: &SideBySide, request: &IoRequest) -> Option<Location> {
     let right = both.ledger.right_at(iomode, offset);
     let bytes = counted(number);
     let (unit_number, stripe) = bytes[offset as usize];
-    let belongs = |byte: &u64| {
-        bytes[*byte as usize].0 == unit_number && both.ledger.right_at(iomode, *byte) == right
-    };
+    let belongs = |byte: &u64| bytes[*byte as usize].0 == unit_number && both.ledger.right_at(iomode, *byte) == right;
     let length = (offset..offset + length).take_while(belongs).count() as u64;
     let slot = both.ledger.slots().number_of(right.body()?)?;
     let mirrors = chosen_mirrors(number, direction);

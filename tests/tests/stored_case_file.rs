@@ -14,8 +14,8 @@ fn stored(name: &str) -> PathBuf {
 #[test]
 fn stored_case_file() {
     let made = stored_file().expect("the captures");
-    let cases = fs::read(stored("stdin"))
-        .expect("crates/answers/stdin is missing: write it with `generate-cases stored`");
+    let cases =
+        fs::read(stored("stdin")).expect("crates/answers/stdin is missing: write it with `generate-cases stored`");
     // Not assert_eq, which would print both files.
     assert!(cases == made, "crates/answers/stdin is not what `generate-cases stored` prints");
 }

@@ -159,9 +159,8 @@ fn unit_and_server_count_disagree() {
 #[test]
 fn thirty_two_segments() {
     for iomode in [IOMODE_READ, IOMODE_RW] {
-        let events: Vec<Event> = (0..32)
-            .map(|place| grant(iomode, place * 10, place * 10 + 4, &small_body(2)))
-            .collect();
+        let events: Vec<Event> =
+            (0..32).map(|place| grant(iomode, place * 10, place * 10 + 4, &small_body(2))).collect();
         let mut both = after(&events);
         for place in 0..32 {
             assert_eq!(both.apply(&layout_return(iomode, place * 10 + 2, place * 10 + 2)), 23);
@@ -178,8 +177,7 @@ fn thirty_two_segments() {
 /// returned it is accepted in that slot."
 #[test]
 fn eight_bodies() {
-    let events: Vec<Event> =
-        (0..8).map(|slot| grant(2, slot * 10, slot * 10 + 9, &small_body(slot as u32))).collect();
+    let events: Vec<Event> = (0..8).map(|slot| grant(2, slot * 10, slot * 10 + 9, &small_body(slot as u32))).collect();
     for slot in 0..8 {
         let mut both = after(&events);
         let ninth = grant(2, 100, 109, &small_body(8));

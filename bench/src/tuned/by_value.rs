@@ -14,7 +14,13 @@ pub extern "C" fn grant(record: TableRecord, store: &mut [u8], bytes: &[u8]) -> 
 
 #[inline(never)]
 #[allow(improper_ctypes_definitions)]
-pub extern "C" fn layout_return(record: TableRecord, store: &mut [u8], offset: u64, length: u64, iomode: u32) -> EventResult {
+pub extern "C" fn layout_return(
+    record: TableRecord,
+    store: &mut [u8],
+    offset: u64,
+    length: u64,
+    iomode: u32,
+) -> EventResult {
     event(record, |table| events::layout_return(table, store, offset, length, iomode))
 }
 
@@ -96,7 +102,12 @@ fn right_of(kind: u32, slot: u32) -> Option<Right> {
 #[inline(always)]
 fn record_of(table: &Table) -> TableRecord {
     let records = |list: &Segments| list.places.each_ref().map(segment_record);
-    TableRecord { read: records(&table.read), rw: records(&table.rw), read_count: table.read.count as u64, rw_count: table.rw.count as u64 }
+    TableRecord {
+        read: records(&table.read),
+        rw: records(&table.rw),
+        read_count: table.read.count as u64,
+        rw_count: table.rw.count as u64,
+    }
 }
 
 #[inline(always)]

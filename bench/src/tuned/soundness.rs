@@ -62,6 +62,7 @@ fn named_in(list: &Segments) -> Option<u8> {
         }
         named |= 1 << slot;
     }
-    let left_over = blank.iter().fold(0, |all, place| all | place.first | place.last | u64::from(place.right != Right::None));
+    let left_over =
+        blank.iter().fold(0, |all, place| all | place.first | place.last | u64::from(place.right != Right::None));
     (left_over == 0).then_some(named)
 }

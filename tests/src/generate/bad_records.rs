@@ -64,8 +64,7 @@ fn add_table_number_beyond_its_limit(cases: &mut CaseFileWriter, random: &mut Ra
 /// One byte more or less than a case of the table has.
 fn add_table_payload_of_another_length(cases: &mut CaseFileWriter, random: &mut Random) {
     let numbers = RangeNumbers { offset: 0, length: u64::MAX, iomode: IOMODE_ANY };
-    let segment =
-        TableCase::SetSegment { iomode: Iomode::Read, place: 0, segment: Segment::default() };
+    let segment = TableCase::SetSegment { iomode: Iomode::Read, place: 0, segment: Segment::default() };
     let all = [
         TableCase::Event(Event::Return(numbers)),
         TableCase::Event(Event::Recall(numbers)),

@@ -1,8 +1,6 @@
 //! Cases of binding a server to its device.
 
-use super::bodies::{
-    fixed_pattern, DevicePlan, LayoutPlan, ServerPlan, VersionPlan, LOOSE_VERSIONS, TIGHT_VERSIONS,
-};
+use super::bodies::{fixed_pattern, DevicePlan, LayoutPlan, ServerPlan, VersionPlan, LOOSE_VERSIONS, TIGHT_VERSIONS};
 use super::random::Random;
 use super::wire::{extended, overwritten};
 use crate::binding::BindRequest;
@@ -105,8 +103,7 @@ fn add_places(cases: &mut CaseFileWriter) {
                 let layout_body = layout_body.clone();
                 let device_body = device_body.clone();
                 let supported_versions = 15;
-                Scene { mirror, stripe, supported_versions, device_id, layout_body, device_body }
-                    .add_to(cases);
+                Scene { mirror, stripe, supported_versions, device_id, layout_body, device_body }.add_to(cases);
             }
         }
     }
@@ -206,8 +203,7 @@ fn add_body_faults(cases: &mut CaseFileWriter) {
     for device_body in &devices {
         Scene { device_body: device_body.clone(), ..scene.clone() }.add_to(cases);
     }
-    Scene { layout_body: layouts[0].clone(), device_body: devices[2].clone(), ..scene.clone() }
-        .add_to(cases);
+    Scene { layout_body: layouts[0].clone(), device_body: devices[2].clone(), ..scene.clone() }.add_to(cases);
     let flagged = overwritten(&scene.layout_body, scene.layout_body.len() - 5, &[16]);
     Scene { layout_body: flagged, ..scene.clone() }.add_to(cases);
     let no_boolean = overwritten(&scene.device_body, scene.device_body.len() - 1, &[2]);

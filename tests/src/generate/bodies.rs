@@ -80,12 +80,8 @@ impl LayoutPlan {
 
     /// Two mirrors of two servers with every padding from 0 to 3.
     pub fn two_by_two() -> Self {
-        let mirror = |first: u8| {
-            vec![
-                ServerPlan::sized(first, &[5, 4], 3, 2),
-                ServerPlan::sized(first + 1, &[7, 6], 1, 4),
-            ]
-        };
+        let mirror =
+            |first: u8| vec![ServerPlan::sized(first, &[5, 4], 3, 2), ServerPlan::sized(first + 1, &[7, 6], 1, 4)];
         LayoutPlan { unit: 65_536, mirrors: vec![mirror(1), mirror(3)], flags: 9, hint: 30 }
     }
 
@@ -143,12 +139,8 @@ impl Layout4Head {
 pub type VersionPlan = [u32; 5];
 
 /// Version 3 and the three minor versions of version 4, none of them tight.
-pub const LOOSE_VERSIONS: [VersionPlan; 4] = [
-    [3, 0, 1_048_576, 524_288, 0],
-    [4, 0, 65_536, 32_768, 0],
-    [4, 1, 262_144, 131_072, 0],
-    [4, 2, 4_096, 8_192, 0],
-];
+pub const LOOSE_VERSIONS: [VersionPlan; 4] =
+    [[3, 0, 1_048_576, 524_288, 0], [4, 0, 65_536, 32_768, 0], [4, 1, 262_144, 131_072, 0], [4, 2, 4_096, 8_192, 0]];
 
 /// The three minor versions of version 4, tightly coupled.
 pub const TIGHT_VERSIONS: [VersionPlan; 3] =
@@ -165,10 +157,7 @@ pub struct DevicePlan {
 impl DevicePlan {
     /// One address of one byte each and one version 3 entry: 44 bytes.
     pub fn smallest() -> Self {
-        DevicePlan {
-            addresses: vec![(b"x".to_vec(), b"y".to_vec())],
-            versions: vec![[3, 0, 1, 1, 0]],
-        }
+        DevicePlan { addresses: vec![(b"x".to_vec(), b"y".to_vec())], versions: vec![[3, 0, 1, 1, 0]] }
     }
 
     /// One TCP address and the given versions.

@@ -52,11 +52,7 @@ pub fn read_captures() -> io::Result<Vec<Capture>> {
 /// `RECORDING_lg000_0.bin`, `RECORDING_gd000.bin` or `RECORDING_lr000.bin`.
 fn parse_name(path: &Path) -> Option<(String, CaptureKind)> {
     let name = path.file_name()?.to_str()?.strip_suffix(".bin")?;
-    let kinds = [
-        ("_lg", CaptureKind::Layout4),
-        ("_gd", CaptureKind::Device),
-        ("_lr", CaptureKind::LayoutReturn),
-    ];
+    let kinds = [("_lg", CaptureKind::Layout4), ("_gd", CaptureKind::Device), ("_lr", CaptureKind::LayoutReturn)];
     kinds.iter().find_map(|&(letters, kind)| {
         let (recording, number) = name.rsplit_once(letters)?;
         number.starts_with(|c: char| c.is_ascii_digit()).then(|| (recording.to_string(), kind))
@@ -114,14 +110,7 @@ fn bind_every_server(
             let mut device_id = [0; 16];
             device_id.copy_from_slice(&layout_body[start..start + 16]);
             for &supported_versions in supported {
-                let request = BindRequest {
-                    mirror,
-                    stripe,
-                    supported_versions,
-                    device_id,
-                    layout_body,
-                    device_body,
-                };
+                let request = BindRequest { mirror, stripe, supported_versions, device_id, layout_body, device_body };
                 cases.bind(&request);
             }
         }

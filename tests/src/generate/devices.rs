@@ -67,10 +67,7 @@ fn shaped(addresses: usize, versions: usize) -> DevicePlan {
     let all_versions = [&TIGHT_VERSIONS[..], &LOOSE_VERSIONS].concat();
     let address = |place: usize| (NETIDS[place].to_vec(), pattern(place as u8, place * 5 + 7));
     let version = |place: usize| all_versions[place % all_versions.len()];
-    DevicePlan {
-        addresses: (0..addresses).map(address).collect(),
-        versions: (0..versions).map(version).collect(),
-    }
+    DevicePlan { addresses: (0..addresses).map(address).collect(), versions: (0..versions).map(version).collect() }
 }
 
 /// Two addresses with padding of 1 and 3 bytes and of 2 and 1, two versions.
@@ -92,10 +89,8 @@ fn add_shapes(bodies: &mut Vec<Vec<u8>>) {
             }
         }
     }
-    let longest = DevicePlan {
-        addresses: vec![(pattern(1, 8), pattern(2, 64)); 8],
-        versions: vec![TIGHT_VERSIONS[1]; 8],
-    };
+    let longest =
+        DevicePlan { addresses: vec![(pattern(1, 8), pattern(2, 64)); 8], versions: vec![TIGHT_VERSIONS[1]; 8] };
     bodies.push(longest.encode().bytes);
 }
 

@@ -154,14 +154,9 @@ impl EventSource {
 
     fn grant(&self, random: &mut Random) -> Event {
         let iomode = random.pick(&Iomode::BOTH);
-        let (first, last) =
-            if random.once_in(2) { self.range(random) } else { self.free_on_grid(random, iomode) };
-        let mut head = Layout4Head {
-            offset: first,
-            length: length_between(first, last),
-            iomode: iomode.number(),
-            layout_type: 4,
-        };
+        let (first, last) = if random.once_in(2) { self.range(random) } else { self.free_on_grid(random, iomode) };
+        let mut head =
+            Layout4Head { offset: first, length: length_between(first, last), iomode: iomode.number(), layout_type: 4 };
         if random.once_in(50) {
             head.iomode = random.pick(&[0, 3, 4]);
         }
@@ -217,9 +212,8 @@ impl EventSource {
     /// grows.
     fn free_on_grid(&self, random: &mut Random, iomode: Iomode) -> (u64, u64) {
         let segments = self.state.table.segments(iomode);
-        let is_free = |&(first, last): &(u64, u64)| {
-            !segments.iter().any(|segment| segment.meets(ByteRange { first, last }))
-        };
+        let is_free =
+            |&(first, last): &(u64, u64)| !segments.iter().any(|segment| segment.meets(ByteRange { first, last }));
         let tries: Vec<(u64, u64)> = (0..8).map(|_| self.on_grid(random)).collect();
         tries.iter().copied().find(is_free).unwrap_or(tries[0])
     }

@@ -57,8 +57,7 @@ const EFFICIENCIES: [&[u32]; 13] = [
 ];
 
 /// A random table has a grant of each iomode in each stretch of so many bytes.
-const WIDTHS: [u64; 12] =
-    [40, 300, 3_000, 20_000, 20_000, FAR, FAR, 1 << 33, 1 << 34, 1 << 48, 1 << 61, 1 << 62];
+const WIDTHS: [u64; 12] = [40, 300, 3_000, 20_000, 20_000, FAR, FAR, 1 << 33, 1 << 34, 1 << 48, 1 << 61, 1 << 62];
 /// How many requests are put to a random table.
 const REQUESTS_A_TABLE: usize = 30;
 

@@ -2,8 +2,8 @@
 
 use super::bad_records::{add_cut_record, add_record_without_form, add_unknown_kind};
 use super::bodies::{
-    encode_reports, DevicePlan, Layout4Head, LayoutPlan, ReportPlan, ServerPlan, VersionPlan,
-    LOOSE_VERSIONS, TIGHT_VERSIONS,
+    encode_reports, DevicePlan, Layout4Head, LayoutPlan, ReportPlan, ServerPlan, VersionPlan, LOOSE_VERSIONS,
+    TIGHT_VERSIONS,
 };
 use super::event_bursts::EventSource;
 use super::layout4s::EDGES;
@@ -95,8 +95,7 @@ fn spoil_padding(random: &mut Random, wire: &Wire, bytes: &mut [u8]) {
 
 /// A number near a limit in the first four bytes of some item.
 fn spoil_item(random: &mut Random, wire: &Wire, bytes: &mut [u8]) {
-    let numbers =
-        [0, 1, 2, 3, 4, 5, 7, 8, 9, 15, 16, 17, 25, 38, 64, 65, 128, 129, 1 << 31, u32::MAX];
+    let numbers = [0, 1, 2, 3, 4, 5, 7, 8, 9, 15, 16, 17, 25, 38, 64, 65, 128, 129, 1 << 31, u32::MAX];
     let place = random.pick(&wire.item_places());
     if let Some(target) = bytes.get_mut(place..place + 4) {
         target.copy_from_slice(&random.pick(&numbers).to_be_bytes());
@@ -154,10 +153,8 @@ fn add_layout4(cases: &mut CaseFileWriter, random: &mut Random) {
         iomode: if random.once_in(8) { random.between(0, 5) as u32 } else { 2 },
         layout_type: if random.once_in(8) { random.between(0, 5) as u32 } else { 4 },
     };
-    let length = body.len() + random.pick(&[0, 0, 0, 1, 2, 4])
-        - random.pick(&[0, 0, 0, 0, 4]).min(body.len());
-    let bytes =
-        if random.once_in(4) { head.claiming(length as u32, &body) } else { head.around(&body) };
+    let length = body.len() + random.pick(&[0, 0, 0, 1, 2, 4]) - random.pick(&[0, 0, 0, 0, 4]).min(body.len());
+    let bytes = if random.once_in(4) { head.claiming(length as u32, &body) } else { head.around(&body) };
     cases.record(kind::LAYOUT4, &bytes);
 }
 
@@ -197,11 +194,7 @@ fn add_bind(cases: &mut CaseFileWriter, random: &mut Random) {
     cases.bind(&BindRequest {
         mirror: beyond(random, mirror),
         stripe: beyond(random, stripe),
-        supported_versions: if random.once_in(12) {
-            random.next_u32()
-        } else {
-            random.below(16) as u32
-        },
+        supported_versions: if random.once_in(12) { random.next_u32() } else { random.below(16) as u32 },
         device_id: if random.once_in(12) { random.fixed() } else { server.device_id },
         layout_body: &layout_body,
         device_body: &device_body,
@@ -228,11 +221,7 @@ fn device_error(random: &mut Random) -> DeviceError {
     DeviceError {
         device_id: random.fixed(),
         status: if random.once_in(40) { 0 } else { random.next_u32() | 1 },
-        operation: if random.once_in(40) {
-            random.below(40) as u32
-        } else {
-            random.pick(&[5, 25, 38])
-        },
+        operation: if random.once_in(40) { random.below(40) as u32 } else { random.pick(&[5, 25, 38]) },
     }
 }
 

@@ -53,8 +53,7 @@ fn add_each_range(cases: &mut CaseFileWriter, start: &[Event]) {
 /// body or another, and the neighbours are granted or recalled.
 fn add_gap_fillings(cases: &mut CaseFileWriter) {
     for recalled in [None, Some((1, 100, 109)), Some((1, 120, 129)), Some((3, 100, 129))] {
-        for (first, last) in [(110, 119), (110, 118), (111, 119), (105, 119), (110, 125), (95, 135)]
-        {
+        for (first, last) in [(110, 119), (110, 118), (111, 119), (105, 119), (110, 125), (95, 135)] {
             for body in [2, 3] {
                 cases.event(Event::Revoke);
                 cases.event(grant(1, 100, 109, &small_body(2)));

@@ -10,11 +10,7 @@ use crate::table_cases::TableCase;
 
 /// A spoiling, the calls after it, what they left, and the case that brings
 /// back what was spoiled.
-pub fn spoiling_and_repair(
-    random: &mut Random,
-    state: &State,
-    calls: Vec<TableCase>,
-) -> Vec<TableCase> {
+pub fn spoiling_and_repair(random: &mut Random, state: &State, calls: Vec<TableCase>) -> Vec<TableCase> {
     let (spoiling, repair) = match random.below(5) {
         0 => (TableCase::Lend(lent_length(random)), TableCase::Lend(STORE_LENGTH)),
         1 | 2 => spoiled_byte(random, state),

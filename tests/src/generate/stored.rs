@@ -1,8 +1,8 @@
 //! The case file that is stored in the repository.
 
 use super::{
-    bindings, captured, devices, event_bursts, file_ends, granted_bytes, layout4s, layouts,
-    locates, overlaps, reports_read, reports_written, segment_limits, slot_limits, unsound,
+    bindings, captured, devices, event_bursts, file_ends, granted_bytes, layout4s, layouts, locates, overlaps,
+    reports_read, reports_written, segment_limits, slot_limits, unsound,
 };
 use crate::cases::CaseFileWriter;
 use std::io;

@@ -5,11 +5,9 @@ use super::bodies::LayoutPlan;
 /// Mirrors and servers: small enough that many bodies can be granted.
 const SHAPES: [(usize, usize); 7] = [(1, 2), (2, 2), (1, 3), (3, 1), (1, 4), (2, 1), (1, 5)];
 /// Powers of two and others, and some that 32 bits would cut.
-const UNITS: [u64; 10] =
-    [3, 10, 64, 1_000, 4_096, 5_000, 1 << 32, (1 << 32) + 1, (1 << 44) - 5, 1 << 62];
+const UNITS: [u64; 10] = [3, 10, 64, 1_000, 4_096, 5_000, 1 << 32, (1 << 32) + 1, (1 << 44) - 5, 1 << 62];
 /// Efficiencies of the mirrors; most of them have a tie.
-const EFFICIENCIES: [[u32; 3]; 6] =
-    [[1, 1, 1], [0, 1, 1], [2, 0, 2], [1, 0, 0], [0, 1 << 31, 1], [4, 4, 5]];
+const EFFICIENCIES: [[u32; 3]; 6] = [[1, 1, 1], [0, 1, 1], [2, 0, 2], [1, 0, 0], [0, 1 << 31, 1], [4, 4, 5]];
 
 /// An accepted body of 136 to 304 bytes, another one for each number.
 pub fn striped_body(number: u32) -> Vec<u8> {

@@ -146,10 +146,7 @@ fn spoiled_places() -> Vec<TableCase> {
 
 /// The two outer segments of RW have changed places.
 fn segments_swapped() -> [TableCase; 2] {
-    [
-        set(Iomode::ReadWrite, 0, 200, LAST_BYTE, Right::Granted(1)),
-        set(Iomode::ReadWrite, 3, 0, 9, Right::Granted(0)),
-    ]
+    [set(Iomode::ReadWrite, 0, 200, LAST_BYTE, Right::Granted(1)), set(Iomode::ReadWrite, 3, 0, 9, Right::Granted(0))]
 }
 
 /// The whole store lent again, and a byte set while less was lent.

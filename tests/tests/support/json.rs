@@ -19,9 +19,7 @@ impl Json {
     /// The member of an object; a missing one fails the test.
     pub fn get(&self, name: &str) -> &Json {
         match self {
-            Json::Object(members) => {
-                members.get(name).unwrap_or_else(|| panic!("no member {name:?}"))
-            }
+            Json::Object(members) => members.get(name).unwrap_or_else(|| panic!("no member {name:?}")),
             other => panic!("{other:?} has no member {name:?}"),
         }
     }
