@@ -105,7 +105,9 @@ struct basilothyn_event_result basilothyn_grant(struct basilothyn_table table, u
 struct basilothyn_event_result basilothyn_return(struct basilothyn_table table, uint8_t *store, size_t store_length, uint64_t offset,
                                                  uint64_t length, uint32_t iomode);
 
-/* A recall: what is granted in the range and iomode becomes recalled; from now on no I/O goes there. Refusals in order: 20, 5, 3, 25, 23. */
+/* A recall: what is granted in the range and iomode becomes recalled; from now on that iomode serves no I/O there. The
+ * other still may: after a recall of READ a write, and a read under a body without flag 4, go through RW where that is
+ * granted; after a recall of RW a read goes through READ. Refusals in order: 20, 5, 3, 25, 23. */
 struct basilothyn_event_result basilothyn_recall(struct basilothyn_table table, uint8_t *store, size_t store_length, uint64_t offset,
                                                  uint64_t length, uint32_t iomode);
 

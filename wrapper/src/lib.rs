@@ -58,7 +58,7 @@ impl Layouts {
         self.keep(result)
     }
 
-    /// CB_LAYOUTRECALL came: from now on no I/O goes to the range.
+    /// CB_LAYOUTRECALL came: from now on that iomode serves no I/O in the range. The other still may.
     pub fn recall(&mut self, offset: u64, length: u64, iomode: Iomode) -> Result<(), Refusal> {
         let result = raw::recall(self.table, &mut self.store, offset, length, iomode as u32);
         self.keep(result)
