@@ -267,6 +267,19 @@ struct basilothyn_reports_result {
 /* Reads the body of an ff_layoutreturn4: 0 to 8 reports, and no statistics (else 8). Refusals: 1, 2, 5, 8, 27. */
 struct basilothyn_reports_result basilothyn_read_reports(const uint8_t *body, size_t length);
 
+/* One error: the place of its device id (16 bytes), its status and its operation. */
+struct basilothyn_error_result {
+    uint32_t refusal;
+    size_t device;
+    uint32_t status;
+    uint32_t operation;
+};
+
+/* Reads the error that stands at a place of a body, whatever stands before and behind it; any place may be asked for.
+ * Of a body that basilothyn_read_reports accepted, error k of report i stands at errors_at[i] + 24 * k. Refusals in
+ * order: 1, 27 (the status is 0, or the operation is not 5, 25 or 38: COMMIT, READ, WRITE). */
+struct basilothyn_error_result basilothyn_read_error(const uint8_t *body, size_t length, size_t at);
+
 struct basilothyn_report_heads {
     struct basilothyn_report_head heads[8];
 };

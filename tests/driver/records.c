@@ -84,6 +84,11 @@ int main(void) {
     FIELD(reports_result, count);
     FIELD(reports_result, heads);
     FIELD(reports_result, errors_at);
+    RECORD(error_result);
+    FIELD(error_result, refusal);
+    FIELD(error_result, device);
+    FIELD(error_result, status);
+    FIELD(error_result, operation);
     RECORD(report_heads);
     FIELD(report_heads, heads);
     RECORD(error);

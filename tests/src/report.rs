@@ -70,7 +70,7 @@ fn read_head(cursor: &mut Cursor) -> Result<ReportHead, Refusal> {
 
 /// "errors of device id, status, operation; an error is judged when all three
 /// are read."
-fn read_error(cursor: &mut Cursor) -> Result<DeviceError, Refusal> {
+pub fn read_error(cursor: &mut Cursor) -> Result<DeviceError, Refusal> {
     let error = DeviceError { device_id: cursor.fixed()?, status: cursor.uint()?, operation: cursor.uint()? };
     check_error(&error)?;
     Ok(error)

@@ -2,7 +2,7 @@
 
 pub mod raw;
 
-use raw::{EventResult, LocateResult, TableRecord, STORE_LENGTH};
+use raw::{ErrorRecord, EventResult, LocateResult, TableRecord, STORE_LENGTH};
 
 /// Why a call refuses; the numbers are those of `include/basilothyn.h`.
 #[derive(Clone, Copy, Debug, PartialEq, Eq)]
@@ -91,6 +91,16 @@ impl Layouts {
         self.table = result.table;
         accepted(result.refusal)
     }
+}
+
+/// The error that stands at a place of an `ff_layoutreturn4` body. Of one that [`raw::read_reports`] accepted, error `k` of
+/// report `i` stands at `errors_at[i] + 24 * k`. Any place may be asked for: what is no error there is refused.
+pub fn read_error(body: &[u8], at: usize) -> Result<ErrorRecord, Refusal> {
+    let read = raw::read_error(body, at);
+    accepted(read.refusal)?;
+    let mut device = [0; 16];
+    device.copy_from_slice(&body[read.device..][..16]);
+    Ok(ErrorRecord { device, status: read.status, operation: read.operation })
 }
 
 fn accepted(refusal: u32) -> Result<(), Refusal> {

@@ -141,6 +141,16 @@ pub struct ReportsResult {
     pub errors_at: [usize; 8],
 }
 
+/// `device` is the place of the device id's 16 bytes.
+#[repr(C)]
+#[derive(Clone, Copy, Debug, Default, PartialEq, Eq)]
+pub struct ErrorResult {
+    pub refusal: u32,
+    pub device: usize,
+    pub status: u32,
+    pub operation: u32,
+}
+
 #[repr(C)]
 #[derive(Clone, Copy, Debug, Default, PartialEq, Eq)]
 pub struct ReportHeads {
@@ -187,6 +197,7 @@ mod exported {
             supported: u32,
         ) -> BindResult;
         pub fn basilothyn_read_reports(body: *const u8, length: usize) -> ReportsResult;
+        pub fn basilothyn_read_error(body: *const u8, length: usize, at: usize) -> ErrorResult;
         pub fn basilothyn_write_report(
             count: u32,
             heads: ReportHeads,
@@ -246,6 +257,10 @@ pub fn bind(layout: &[u8], mirror: u32, stripe: u32, device: &[u8], id: &[u8; 16
 
 pub fn read_reports(body: &[u8]) -> ReportsResult {
     unsafe { exported::basilothyn_read_reports(body.as_ptr(), body.len()) }
+}
+
+pub fn read_error(body: &[u8], at: usize) -> ErrorResult {
+    unsafe { exported::basilothyn_read_error(body.as_ptr(), body.len(), at) }
 }
 
 pub fn write_report(count: u32, heads: ReportHeads, errors: &[ErrorRecord], out: &mut [u8]) -> WriteResult {

@@ -26,6 +26,7 @@ fn layouts() -> String {
         record!("bind_result", BindResult: "refusal" refusal, "entry" entry, "version" version, "filehandle" filehandle, "stateid" stateid, "user" user, "group" group),
         record!("report_head", ReportHead: "offset" offset, "length" length, "stateid" stateid, "errors" errors),
         record!("reports_result", ReportsResult: "refusal" refusal, "count" count, "heads" heads, "errors_at" errors_at),
+        record!("error_result", ErrorResult: "refusal" refusal, "device" device, "status" status, "operation" operation),
         record!("report_heads", ReportHeads: "heads" heads),
         record!("error", ErrorRecord: "device" device, "status" status, "operation" operation),
         record!("write_result", WriteResult: "refusal" refusal, "length" length),

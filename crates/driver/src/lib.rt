@@ -19,6 +19,7 @@ pub use reports::WriteResult;
 pub use reports::basilothyn_write_report;
 pub use wire::basilothyn_bind;
 pub use wire::basilothyn_read_device;
+pub use wire::basilothyn_read_error;
 pub use wire::basilothyn_read_layout;
 pub use wire::basilothyn_read_layout4;
 pub use wire::basilothyn_read_reports;

@@ -3,19 +3,21 @@ use base::MirrorNumber;
 use base::StripeNumber;
 use wire_record::BindResult;
 use wire_record::DeviceResult;
+use wire_record::ErrorResult;
 use wire_record::Layout4Result;
 use wire_record::LayoutResult;
 use wire_record::ReportsResult;
+use xdr::Cursor;
 ghost use mathlib.Core.Path.{_≡_};
 ghost use Rattle.layout.specs.Layouts.{layoutBody};
 ghost use Rattle.layout4.specs.Layout4s.{layout4};
 ghost use Rattle.device.specs.Bodies.{deviceBody};
 ghost use Rattle.binding.specs.Bindings.{boundTo};
-ghost use Rattle.report.specs.Reports.{reportBody};
+ghost use Rattle.report.specs.Reports.{errorAt, reportBody};
 ghost use Rattle.wire_record.specs.Layouts.{layout4Result, layoutResult};
 ghost use Rattle.wire_record.specs.Devices.{deviceResult};
 ghost use Rattle.wire_record.specs.Bindings.{bindResult};
-ghost use Rattle.wire_record.specs.Reports.{reportsResult};
+ghost use Rattle.wire_record.specs.Reports.{errorResult, reportsResult};
 
 #[no_mangle]
 pub extern "C" fn basilothyn_read_layout(body: &[u8]) -> LayoutResult
@@ -60,4 +62,12 @@ pub extern "C" fn basilothyn_read_reports(body: &[u8]) -> ReportsResult
     ensures { λ r. ⌜ r ≡ reportsResult (reportBody (now (body .entry))) ⌝ }
 {
     wire_record::reports_result(report::read_reports(body))
+}
+
+// The error that stands at a place of a body.
+#[no_mangle]
+pub extern "C" fn basilothyn_read_error(body: &[u8], at: usize) -> ErrorResult
+    ensures { λ r. ⌜ r ≡ errorResult (errorAt (now (body .entry)) at) ⌝ }
+{
+    wire_record::error_result(report::read_error(body, Cursor { at }))
 }

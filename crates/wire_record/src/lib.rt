@@ -2,6 +2,7 @@
 // first byte of the body read. After a refusal all but its number is 0.
 mod bindings;
 mod devices;
+mod errors;
 mod layouts;
 mod reports;
 
@@ -11,6 +12,8 @@ pub use devices::AddressRecord;
 pub use devices::DeviceResult;
 pub use devices::VersionRecord;
 pub use devices::device_result;
+pub use errors::ErrorResult;
+pub use errors::error_result;
 pub use layouts::Layout4Result;
 pub use layouts::LayoutResult;
 pub use layouts::PartRecord;

@@ -7,7 +7,7 @@ use independent::layout::LayoutSummary;
 use independent::layout4::{Layout4, BODY_IN_LAYOUT4};
 use independent::refusal::Refusal;
 use independent::report::{self, Reports};
-use independent::xdr::Extent;
+use independent::xdr::{Cursor, Extent};
 
 fn number(refusal: Refusal) -> u32 {
     u32::from(refusal.number())
@@ -117,6 +117,14 @@ pub fn reports(read: Result<Reports, Refusal>) -> ReportsResult {
         Err(refusal) => result.refusal = number(refusal),
     }
     result
+}
+
+/// The error at a place of a body: "device id, status, operation".
+pub fn error(body: &[u8], at: usize) -> ErrorResult {
+    match report::read_error(&mut Cursor::starting_at(body, at)) {
+        Ok(e) => ErrorResult { refusal: 0, device: at, status: e.status, operation: e.operation },
+        Err(refusal) => ErrorResult { refusal: number(refusal), ..ErrorResult::default() },
+    }
 }
 
 pub fn written(length: Result<usize, Refusal>) -> WriteResult {

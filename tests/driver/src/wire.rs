@@ -2,13 +2,13 @@
 
 use crate::tally::Tally;
 use crate::{expected, same};
-use basilothyn::raw::{self, ErrorRecord, ReportHeads};
+use basilothyn::raw::{self, ErrorRecord, ReportHeads, ReportsResult};
 use independent::binding::bind;
 use independent::cases::{Case, ReportWrite};
 use independent::device::read_device_body;
 use independent::layout::read_layout_body;
 use independent::layout4::read_layout4;
-use independent::report::{read_reports, write_reports};
+use independent::report::{read_reports, write_reports, DeviceError};
 
 /// What stands in an output before it is written to.
 const FILL: u8 = 165;
@@ -38,19 +38,43 @@ pub fn compare(case: &Case, tally: &mut Tally) -> Result<(), String> {
         Case::ReportRead(body) => {
             let answered = raw::read_reports(body);
             tally.count(answered.refusal);
-            same("the reports", expected::reports(read_reports(body)), answered)
+            let read = read_reports(body);
+            same("the reports", expected::reports(read.clone()), answered)?;
+            compare_walk(body, &answered, &read.map_or(Vec::new(), |reports| reports.errors))?;
+            compare_errors(body, tally)
         }
         Case::ReportWrite(case) => compare_writing(case, tally),
         Case::Table(_) => Ok(()),
     }
 }
 
+/// The errors of an accepted body, each read at its place.
+fn compare_walk(body: &[u8], reports: &ReportsResult, errors: &[DeviceError]) -> Result<(), String> {
+    let in_use = reports.heads.iter().zip(reports.errors_at).take(reports.count as usize);
+    let places = in_use.flat_map(|(head, first)| (0..head.errors as usize).map(move |k| first + 24 * k));
+    let walked: Vec<_> = places.map(|at| basilothyn::read_error(body, at)).collect();
+    let expected: Vec<_> = errors.iter().map(|e| Ok(error_record(e))).collect();
+    same("the errors of the reports", expected, walked)
+}
+
+/// An error at every place of a body, whatever the body is, and behind its end.
+fn compare_errors(body: &[u8], tally: &mut Tally) -> Result<(), String> {
+    for at in (0..body.len() + 25).chain([usize::MAX - 24, usize::MAX - 15, usize::MAX]) {
+        same("the error at a place", (at, expected::error(body, at)), (at, raw::read_error(body, at)))?;
+        tally.count_error();
+    }
+    Ok(())
+}
+
+fn error_record(e: &DeviceError) -> ErrorRecord {
+    ErrorRecord { device: e.device_id, status: e.status, operation: e.operation }
+}
+
 fn compare_writing(case: &ReportWrite, tally: &mut Tally) -> Result<(), String> {
     let mut wanted = vec![FILL; case.output_length];
     let expected = expected::written(write_reports(case.report_count, &case.heads, &case.errors, &mut wanted));
     let heads = ReportHeads { heads: case.heads.each_ref().map(expected::head) };
-    let record = |e: &independent::report::DeviceError| ErrorRecord { device: e.device_id, status: e.status, operation: e.operation };
-    let errors: Vec<ErrorRecord> = case.errors.iter().map(record).collect();
+    let errors: Vec<ErrorRecord> = case.errors.iter().map(error_record).collect();
     let mut out = vec![FILL; case.output_length];
     let answered = raw::write_report(case.report_count, heads, &errors, &mut out);
     tally.count(answered.refusal);
