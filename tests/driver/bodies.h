@@ -1,0 +1,140 @@
+/* Bodies as they come on the wire, put together from what the scope paper says of each: numbers big-endian, opaque data
+ * with its length in front and zeros behind, up to a multiple of 4. */
+#ifndef BODIES_H
+#define BODIES_H
+
+#include <stdint.h>
+#include <string.h>
+
+struct bytes {
+    uint8_t at[8192];
+    size_t length;
+};
+
+static void put(struct bytes *b, uint64_t number, unsigned width)
+{
+    while (width-- > 0)
+        b->at[b->length++] = (uint8_t)(number >> 8 * width);
+}
+
+static void put_copies(struct bytes *b, uint8_t byte, size_t count)
+{
+    memset(b->at + b->length, byte, count);
+    b->length += count;
+}
+
+static void put_opaque(struct bytes *b, const char *text)
+{
+    size_t length = strlen(text);
+
+    put(b, length, 4);
+    memcpy(b->at + b->length, text, length);
+    b->length += length;
+    put_copies(b, 0, (4 - length % 4) % 4);
+}
+
+/* Every data server has the same device id and stateid (16 times one byte), user and group, and as many filehandles:
+ * "a", "b", and so on. Mirror m has the efficiency efficiency[m]. */
+struct layout_plan {
+    uint64_t unit;
+    uint32_t mirrors, servers, handles, flags, hint;
+    uint32_t efficiency[16];
+    uint8_t device, stateid;
+    const char *user, *group;
+};
+
+/* One mirror of one data server: the smallest body. */
+static const struct layout_plan smallest = {
+    .mirrors = 1, .servers = 1, .handles = 1, .device = 1, .user = "", .group = ""};
+
+static void put_server(struct bytes *b, const struct layout_plan *p, uint32_t mirror)
+{
+    put_copies(b, p->device, 16);
+    put(b, p->efficiency[mirror], 4);
+    put_copies(b, p->stateid, 16);
+    put(b, p->handles, 4);
+    for (uint32_t i = 0; i < p->handles; i++)
+        put_opaque(b, (const char[]){(char)('a' + i), 0});
+    put_opaque(b, p->user);
+    put_opaque(b, p->group);
+}
+
+static struct bytes layout_body(struct layout_plan p)
+{
+    struct bytes b = {.length = 0};
+
+    put(&b, p.unit, 8);
+    put(&b, p.mirrors, 4);
+    for (uint32_t mirror = 0; mirror < p.mirrors; mirror++) {
+        put(&b, p.servers, 4);
+        for (uint32_t stripe = 0; stripe < p.servers; stripe++)
+            put_server(&b, &p, mirror);
+    }
+    put(&b, p.flags, 4);
+    put(&b, p.hint, 4);
+    return b;
+}
+
+static struct bytes layout4(uint64_t offset, uint64_t length, uint32_t iomode, struct layout_plan p)
+{
+    struct bytes body = layout_body(p), b = {.length = 0};
+
+    put(&b, offset, 8);
+    put(&b, length, 8);
+    put(&b, iomode, 4);
+    put(&b, 4, 4);
+    put(&b, body.length, 4);
+    memcpy(b.at + b.length, body.at, body.length);
+    b.length += body.length;
+    return b;
+}
+
+struct version_plan {
+    uint32_t version, minor, rsize, wsize, tight;
+};
+
+/* Address after address of one netid and text, then the version entries. */
+static struct bytes device_body(uint32_t addresses, const char *netid, const char *text, uint32_t versions,
+                                const struct version_plan *v)
+{
+    struct bytes b = {.length = 0};
+
+    put(&b, addresses, 4);
+    for (uint32_t i = 0; i < addresses; i++) {
+        put_opaque(&b, netid);
+        put_opaque(&b, text);
+    }
+    put(&b, versions, 4);
+    for (uint32_t i = 0; i < versions; i++) {
+        put(&b, v[i].version, 4);
+        put(&b, v[i].minor, 4);
+        put(&b, v[i].rsize, 4);
+        put(&b, v[i].wsize, 4);
+        put(&b, v[i].tight, 4);
+    }
+    return b;
+}
+
+/* Reports of the bytes 1 to 2 with a stateid of threes. Error number n of the body is of the device whose id is 16
+ * times n, with the status n + 1, in a WRITE. */
+static struct bytes report_body(uint32_t reports, uint32_t errors)
+{
+    struct bytes b = {.length = 0};
+
+    put(&b, reports, 4);
+    for (uint32_t i = 0; i < reports; i++) {
+        put(&b, 1, 8);
+        put(&b, 2, 8);
+        put_copies(&b, 3, 16);
+        put(&b, errors, 4);
+        for (uint32_t k = 0; k < errors; k++) {
+            put_copies(&b, (uint8_t)(i * errors + k), 16);
+            put(&b, i * errors + k + 1, 4);
+            put(&b, 38, 4);
+        }
+    }
+    put(&b, 0, 4);
+    return b;
+}
+
+#endif
