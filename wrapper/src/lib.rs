@@ -112,5 +112,12 @@ fn accepted(refusal: u32) -> Result<(), Refusal> {
 
 fn piece(r: LocateResult) -> Result<Piece, Refusal> {
     accepted(r.refusal)?;
-    Ok(Piece { iomode: r.iomode, slot: r.slot, stripe: r.stripe, offset: r.offset, length: r.length, mirrors: r.mirrors })
+    Ok(Piece {
+        iomode: r.iomode,
+        slot: r.slot,
+        stripe: r.stripe,
+        offset: r.offset,
+        length: r.length,
+        mirrors: r.mirrors,
+    })
 }

@@ -177,12 +177,44 @@ mod exported {
 
     extern "C" {
         pub fn basilothyn_empty_table() -> TableRecord;
-        pub fn basilothyn_grant(table: TableRecord, store: *mut u8, store_length: usize, bytes: *const u8, length: usize) -> EventResult;
-        pub fn basilothyn_return(table: TableRecord, store: *mut u8, store_length: usize, offset: u64, length: u64, iomode: u32) -> EventResult;
-        pub fn basilothyn_recall(table: TableRecord, store: *mut u8, store_length: usize, offset: u64, length: u64, iomode: u32) -> EventResult;
+        pub fn basilothyn_grant(
+            table: TableRecord,
+            store: *mut u8,
+            store_length: usize,
+            bytes: *const u8,
+            length: usize,
+        ) -> EventResult;
+        pub fn basilothyn_return(
+            table: TableRecord,
+            store: *mut u8,
+            store_length: usize,
+            offset: u64,
+            length: u64,
+            iomode: u32,
+        ) -> EventResult;
+        pub fn basilothyn_recall(
+            table: TableRecord,
+            store: *mut u8,
+            store_length: usize,
+            offset: u64,
+            length: u64,
+            iomode: u32,
+        ) -> EventResult;
         pub fn basilothyn_revoke(table: TableRecord, store: *mut u8, store_length: usize) -> EventResult;
-        pub fn basilothyn_locate_read(table: TableRecord, store: *const u8, store_length: usize, offset: u64, length: u64) -> LocateResult;
-        pub fn basilothyn_locate_write(table: TableRecord, store: *const u8, store_length: usize, offset: u64, length: u64) -> LocateResult;
+        pub fn basilothyn_locate_read(
+            table: TableRecord,
+            store: *const u8,
+            store_length: usize,
+            offset: u64,
+            length: u64,
+        ) -> LocateResult;
+        pub fn basilothyn_locate_write(
+            table: TableRecord,
+            store: *const u8,
+            store_length: usize,
+            offset: u64,
+            length: u64,
+        ) -> LocateResult;
         pub fn basilothyn_read_layout(body: *const u8, length: usize) -> LayoutResult;
         pub fn basilothyn_read_layout4(bytes: *const u8, length: usize) -> Layout4Result;
         pub fn basilothyn_read_device(body: *const u8, length: usize) -> DeviceResult;
@@ -252,7 +284,18 @@ pub fn read_device(body: &[u8]) -> DeviceResult {
 }
 
 pub fn bind(layout: &[u8], mirror: u32, stripe: u32, device: &[u8], id: &[u8; 16], supported: u32) -> BindResult {
-    unsafe { exported::basilothyn_bind(layout.as_ptr(), layout.len(), mirror, stripe, device.as_ptr(), device.len(), id, supported) }
+    unsafe {
+        exported::basilothyn_bind(
+            layout.as_ptr(),
+            layout.len(),
+            mirror,
+            stripe,
+            device.as_ptr(),
+            device.len(),
+            id,
+            supported,
+        )
+    }
 }
 
 pub fn read_reports(body: &[u8]) -> ReportsResult {
@@ -264,5 +307,7 @@ pub fn read_error(body: &[u8], at: usize) -> ErrorResult {
 }
 
 pub fn write_report(count: u32, heads: ReportHeads, errors: &[ErrorRecord], out: &mut [u8]) -> WriteResult {
-    unsafe { exported::basilothyn_write_report(count, heads, errors.as_ptr(), errors.len(), out.as_mut_ptr(), out.len()) }
+    unsafe {
+        exported::basilothyn_write_report(count, heads, errors.as_ptr(), errors.len(), out.as_mut_ptr(), out.len())
+    }
 }

@@ -40,7 +40,9 @@ pub fn layout4(read: Result<Layout4, Refusal>) -> Layout4Result {
         offset: l.as_ref().map_or(0, |l| l.offset),
         length: l.as_ref().map_or(0, |l| l.length),
         last: l.as_ref().map_or(0, last),
-        body: l.as_ref().map_or(PartRecord::default(), |l| PartRecord { start: BODY_IN_LAYOUT4, length: l.body_length }),
+        body: l
+            .as_ref()
+            .map_or(PartRecord::default(), |l| PartRecord { start: BODY_IN_LAYOUT4, length: l.body_length }),
         summary: l.as_ref().map_or(SummaryRecord::default(), |l| summary(&l.summary)),
         starts: l.as_ref().map_or([0; 128], |l| l.summary.starts),
     }

@@ -23,7 +23,11 @@ impl Tally {
 
 impl fmt::Display for Tally {
     fn fmt(&self, f: &mut fmt::Formatter) -> fmt::Result {
-        write!(f, "{} calls: the same answers, tables and stores\n0 is an accepted call:", self.answers.values().sum::<u64>())?;
+        write!(
+            f,
+            "{} calls: the same answers, tables and stores\n0 is an accepted call:",
+            self.answers.values().sum::<u64>()
+        )?;
         self.answers.iter().try_for_each(|(number, times)| write!(f, " {number}: {times}"))?;
         write!(f, "\n{} single errors: the same answers", self.errors)
     }

@@ -31,7 +31,8 @@ pub fn compare(case: &Case, tally: &mut Tally) -> Result<(), String> {
             same("the device body", expected::device(read_device_body(body)), answered)
         }
         Case::Bind(r) => {
-            let answered = raw::bind(r.layout_body, r.mirror, r.stripe, r.device_body, &r.device_id, r.supported_versions);
+            let answered =
+                raw::bind(r.layout_body, r.mirror, r.stripe, r.device_body, &r.device_id, r.supported_versions);
             tally.count(answered.refusal);
             same("the binding", expected::binding(bind(r)), answered)
         }
