@@ -17,7 +17,7 @@ use Rattle.reference.specs.Cases.{Case, bodyOf, grantOf, grantedIn, recalledIn}
 use Rattle.reference.specs.Model.{Recall, Return}
 
 pub data Example : Type 0 where
-  -- events on a short file: their answers, and the segments after them
+  -- events: their answers, and the segments after them
   Events : Case → Example
   -- these segments are held in RW under a body in slot 0; the offset and the length of a write; its stripe, and the length of its piece
   Write : Body → List Segment → ℕ → ℕ → Answer (ℕ × ℕ) → Example
@@ -50,7 +50,6 @@ examples =
     ∷ Range (2 ^ 64 - 1) 0 (refused 5)
     -- "Grant RW 0..99, return 40..59: segments 0..39 and 60..99."
     ∷ Events (record {
-      last = 120;
       events = grantOf 0 100 2 0 ∷ Return 40 20 2 ∷ [];
       numbers = 0 ∷ 0 ∷ [];
       read = [];
@@ -58,7 +57,6 @@ examples =
     })
     -- "Then grant 40..59 under the same body: one segment 0..99."
     ∷ Events (record {
-      last = 120;
       events = grantOf 0 100 2 0 ∷ Return 40 20 2 ∷ grantOf 40 20 2 0 ∷ [];
       numbers = 0 ∷ 0 ∷ 0 ∷ [];
       read = [];
@@ -66,7 +64,6 @@ examples =
     })
     -- "Under another body, with the first still held at 0..39 and 60..99: three segments."
     ∷ Events (record {
-      last = 120;
       events = grantOf 0 100 2 0 ∷ Return 40 20 2 ∷ grantOf 40 20 2 1 ∷ [];
       numbers = 0 ∷ 0 ∷ 0 ∷ [];
       read = [];
@@ -74,7 +71,6 @@ examples =
     })
     -- "Recall RW 10..19 of 0..99: three segments; writing at 10 is 17, at 20 is allowed."
     ∷ Events (record {
-      last = 120;
       events = grantOf 0 100 2 0 ∷ Recall 10 10 2 ∷ [];
       numbers = 0 ∷ 0 ∷ [];
       read = [];
@@ -84,7 +80,6 @@ examples =
     ∷ Write (bodyOf 0 1 0) (grantedIn 0 0 9 ∷ recalledIn 0 10 19 ∷ grantedIn 0 20 99 ∷ []) 20 1 (accepted (0, 1))
     -- "A recall on an empty table is 25; a return there is accepted."
     ∷ Events (record {
-      last = 120;
       events = Recall 0 toTheEnd 3 ∷ Return 0 toTheEnd 3 ∷ [];
       numbers = 25 ∷ 0 ∷ [];
       read = [];

@@ -6,5 +6,6 @@ pub mod Decode
 pub mod SoundLaws
 pub mod OwnLaws
 pub mod FromStep
+pub mod ShortFiles
 pub mod Examples
 pub mod StandIns

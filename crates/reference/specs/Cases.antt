@@ -1,10 +1,10 @@
--- Worked examples of the table: lists of events on a small file, and what the model must make of them. Here are those that the scope paper does not
--- star; examples/specs/Examples.antt has the starred ones.
+-- Worked examples of the table: lists of events, and what the model must make of them on a file of 2^64 bytes. Here are those that the scope paper does
+-- not star; examples/specs/Examples.antt has the starred ones.
 use Prim.Native.Nat.{ℕ, zero, suc, _+_}
 use mathlib.Core.Path.{_≡_}
 use mathlib.Core.List.{List, [], _∷_, _++_}
 use lib.ListN.{replicate}
-use Rattle.base.specs.Ranges.{toTheEnd}
+use Rattle.base.specs.Ranges.{lastByte, toTheEnd}
 use Rattle.numbers.specs.Numbers.{beBytes}
 use Rattle.segments.specs.declared.Right.the-variants as table
 use Rattle.segments.specs.declared.Segment.{Segment}
@@ -37,9 +37,8 @@ grantedIn i first last = record { first = first; last = last; right = table.Gran
 abbrev pub recalledIn : ℕ → ℕ → ℕ → Segment
 recalledIn i first last = record { first = first; last = last; right = table.Recalled (record { 0 = i }) }
 
--- events on a file of the bytes 0 to last, the numbers that they are answered, and the segments after them
+-- events, the numbers that they are answered, and the segments after them
 pub record Case : Type 0 where
-  pub last : ℕ
   pub events : List Event
   pub numbers : List ℕ
   pub read : List Segment
@@ -47,9 +46,9 @@ pub record Case : Type 0 where
 
 abbrev pub Holds : Case → Type 0
 Holds c =
-    (answers (c .last) (c .events) start ≡ c .numbers)
-    × (segmentsIn (c .last) (run (c .last) (c .events) start) READ ≡ c .read)
-    × (segmentsIn (c .last) (run (c .last) (c .events) start) RW ≡ c .rw)
+    (answers lastByte (c .events) start ≡ c .numbers)
+    × (segmentsIn lastByte (run lastByte (c .events) start) READ ≡ c .read)
+    × (segmentsIn lastByte (run lastByte (c .events) start) RW ≡ c .rw)
 
 -- returns in RW of n single bytes, every other byte from x on
 abbrev pub returnsFrom : ℕ → ℕ → List Event
@@ -60,7 +59,6 @@ abbrev pub cases : List Case
 cases =
     -- a recall of bytes that are not held is 25, whatever is held beside them
     record {
-      last = 120;
       events = grantOf 0 100 2 0 ∷ Recall 100 5 2 ∷ Recall 0 100 1 ∷ [];
       numbers = 0 ∷ 25 ∷ 25 ∷ [];
       read = [];
@@ -68,7 +66,6 @@ cases =
     }
     -- a recall in READ leaves what is held in RW
     ∷ record {
-      last = 120;
       events = grantOf 0 100 2 0 ∷ grantOf 0 100 1 0 ∷ Recall 10 10 1 ∷ [];
       numbers = 0 ∷ 0 ∷ 0 ∷ [];
       read = grantedIn 0 0 9 ∷ recalledIn 0 10 19 ∷ grantedIn 0 20 99 ∷ [];
@@ -76,7 +73,6 @@ cases =
     }
     -- a byte held under another body is 21, a recalled one 22, and before either the range is judged, then the iomode
     ∷ record {
-      last = 120;
       events = grantOf 0 100 2 0 ∷ Recall 10 10 2 ∷ grantOf 15 10 2 1 ∷ grantOf 15 10 2 0 ∷ Return 0 0 9 ∷ Return 0 1 9 ∷ [];
       numbers = 0 ∷ 0 ∷ 21 ∷ 22 ∷ 5 ∷ 3 ∷ [];
       read = [];
@@ -84,7 +80,6 @@ cases =
     }
     -- "8 bodies held: a ninth, on bytes not held, is 24; after one is wholly returned it is accepted in that slot."
     ∷ record {
-      last = 8;
       events = grantOf 0 1 2 0 ∷ grantOf 1 1 2 1 ∷ grantOf 2 1 2 2 ∷ grantOf 3 1 2 3 ∷ grantOf 4 1 2 4 ∷ grantOf 5 1 2 5 ∷ grantOf 6 1 2 6 ∷ grantOf 7 1 2 7 ∷ grantOf 8 1 2 8 ∷ Return 3 1 2 ∷ grantOf 8 1 2 8 ∷ [];
       numbers = 0 ∷ 0 ∷ 0 ∷ 0 ∷ 0 ∷ 0 ∷ 0 ∷ 0 ∷ 24 ∷ 0 ∷ 0 ∷ [];
       read = [];
@@ -92,7 +87,6 @@ cases =
     }
     -- "A grant whose body is on the shelf uses that slot; otherwise the lowest unnamed one."
     ∷ record {
-      last = 8;
       events = grantOf 0 1 2 0 ∷ grantOf 1 1 1 0 ∷ grantOf 2 1 2 1 ∷ [];
       numbers = 0 ∷ 0 ∷ 0 ∷ [];
       read = grantedIn 0 1 1 ∷ [];
@@ -100,7 +94,6 @@ cases =
     }
     -- a revoke takes every right away
     ∷ record {
-      last = 120;
       events = grantOf 0 100 2 0 ∷ grantOf 0 100 1 1 ∷ Revoke ∷ [];
       numbers = 0 ∷ 0 ∷ 0 ∷ [];
       read = [];
@@ -108,7 +101,6 @@ cases =
     }
     -- "32 segments in an iomode and a return inside one, touching neither of its ends: 23. The same return of the whole file: accepted."
     ∷ record {
-      last = 64;
       events = grantOf 0 65 2 0 ∷ (returnsFrom 31 1 ++ (Return 63 1 2 ∷ Return 0 toTheEnd 2 ∷ []));
       numbers = replicate 32 0 ++ (23 ∷ 0 ∷ []);
       read = [];

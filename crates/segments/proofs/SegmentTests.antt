@@ -16,7 +16,7 @@ use Rattle.segments.proofs.Canon.{Ord, Below, at-in, at-none, at-past, 
 use Rattle.segments.proofs.ScanLaws.{any-ext, any-found, any-some, segments-below, segments-canon, segments-show}
 
 -- two tests that hold together
-same-tests : (a b : Bool) → (a ≡ true → b ≡ true) → (b ≡ true → a ≡ true) → a ≡ b
+pub same-tests : (a b : Bool) → (a ≡ true → b ≡ true) → (b ≡ true → a ≡ true) → a ≡ b
 same-tests true true f g = refl
 same-tests true false f g = sym (f refl)
 same-tests false true f g = g refl
