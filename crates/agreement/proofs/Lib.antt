@@ -9,5 +9,6 @@ pub mod RightLaws
 pub mod StoreLaws
 pub mod StepLaws
 pub mod Demand
+pub mod AnyTable
 pub mod Unchanged
 pub mod WholeFile

@@ -13,7 +13,8 @@ use Rattle.agreement.proofs.Changed.{changedRight}
 use Rattle.store.specs.Store.{Body, Slot}
 use Rattle.reference.specs.Model.{ByteRight, none, granted, recalled, Model, Order, Deed, grants, returns, recalls, revokes, act, afterAt, anyByte, covers, inSlots, isUnder, placed, rightAfter, slotOf, withSlot}
 use Rattle.reference.proofs.SlotLaws.{named-slot, placed-slot}
-use Rattle.reference.proofs.Inv.{Housed, any-byte}
+use Rattle.reference.specs.AnyTable.{Housed}
+use Rattle.reference.proofs.Inv.{any-byte}
 
 -- what an event makes of the table, given the slot of its body
 abbrev pub changeOf : Deed → ℕ → Change

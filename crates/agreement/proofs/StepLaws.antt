@@ -21,7 +21,8 @@ use Rattle.store.specs.Store.{Body, Slot, holds, storeOf}
 use Rattle.reference.specs.Claim.{CallResult}
 use Rattle.reference.specs.Model.{ByteRight, none, granted, recalled, Model, Order, Deed, grants, returns, recalls, revokes, act, anyByte, covers, ifAccepted, inSlots, isHeld, isRecalled, meets, noneEmpty, placed, refuse, slotOf, stops21, stops22, stops24, stops25, tableOf, tooMany, verdict, withSlot}
 use Rattle.reference.proofs.SlotLaws.{placed-held, placed-length, same-number}
-use Rattle.reference.proofs.Inv.{GoodBody, GoodDeed, Housed, Inv, Passes, act-keeps}
+use Rattle.reference.specs.AnyTable.{GoodBody, Housed, Invariant}
+use Rattle.reference.proofs.Inv.{GoodDeed, Passes, act-keeps}
 use Rattle.reference.proofs.Decode.{Fitting, fits-whole, slots-back, whole}
 use Rattle.store.proofs.SlotLaws.{length-slot}
 use Rattle.store.proofs.StoreLaws.{set-slot}
@@ -87,14 +88,14 @@ no-home ss b e f = rw (e, f)
 abbrev pub ended : ℕ → Order → Model → ℕ → CallResult
 ended N o M n = record { answer = n; table = tableOf N (ifAccepted n (act N o M) M); store = storeOf (ifAccepted n (act N o M) M .slots) }
 
-fits-placed : (N : ℕ) (M : Model) (d : Deed) → Inv N M → GoodDeed d → Fitting (placed d (M .slots))
+fits-placed : (N : ℕ) (M : Model) (d : Deed) → Invariant N M → GoodDeed d → Fitting (placed d (M .slots))
 fits-placed N M d v g i b e = ⊎-elim (λ h. v .good i b h .small) (λ h. brought h g) (placed-held d b (M .slots) i e)
   where
     brought : {d : Deed} → d ≡ grants b → GoodDeed d → length b ≤ 4090
     brought h k = let j : GoodDeed (grants b) = rw h at k in j .small
 
-module _ (N : ℕ) (M : Model) (o : Order) (v : Inv N M) (good : GoodDeed (o .deed)) (rising : o .first ≤ o .last) (ends : o .last ≤ N) where
-  store-cleared : Inv N (act N o M) → clearedFrom (tableOf N M) (tableOf N (act N o M)) 8 0 (storeOf (placed (o .deed) (M .slots))) ≡ storeOf (act N o M .slots)
+module _ (N : ℕ) (M : Model) (o : Order) (v : Invariant N M) (good : GoodDeed (o .deed)) (rising : o .first ≤ o .last) (ends : o .last ≤ N) where
+  store-cleared : Invariant N (act N o M) → clearedFrom (tableOf N M) (tableOf N (act N o M)) 8 0 (storeOf (placed (o .deed) (M .slots))) ≡ storeOf (act N o M .slots)
   store-cleared w =
       let eight : length (placed (o .deed) (M .slots)) ≡ 8 = placed-length (o .deed) (M .slots) ∙ v .eight in
       ap (λ (k : ℕ). clearedFrom (tableOf N M) (tableOf N (act N o M)) k 0 (storeOf (placed (o .deed) (M .slots)))) (sym eight)
@@ -119,7 +120,7 @@ module _ (N : ℕ) (M : Model) (o : Order) (v : Inv N M) (good : GoodDeed (o .de
 
 -- ---- each deed
 
-module _ (N : ℕ) (M : Model) (v : Inv N M) (i : Iomode) (lo hi : ℕ) (rising : lo ≤ hi) (ends : hi ≤ N) where
+module _ (N : ℕ) (M : Model) (v : Invariant N M) (i : Iomode) (lo hi : ℕ) (rising : lo ≤ hi) (ends : hi ≤ N) where
   order : Deed → Order
   order d = record { deed = d; iomode = i; first = lo; last = hi }
 
@@ -225,7 +226,7 @@ module _ (N : ℕ) (M : Model) (v : Inv N M) (i : Iomode) (lo hi : ℕ) (rising 
         go false true h = refl
         go false false h = h refl refl
 
-pub order-met : (N : ℕ) (M : Model) (o : Order) → Inv N M → GoodDeed (o .deed) → o .first ≤ o .last → o .last ≤ N
+pub order-met : (N : ℕ) (M : Model) (o : Order) → Invariant N M → GoodDeed (o .deed) → o .first ≤ o .last → o .last ≤ N
     → byDeed (o .deed) o (tableOf N M) (storeOf (M .slots)) ≡ ended N o M (verdict N o M)
 unfolding order
 order-met N M o v good rising ends = go (o .deed) good

@@ -16,7 +16,8 @@ use Rattle.segments.specs.Segments.{Mode, READ, RW, actsOn, isNamed}
 use Rattle.store.specs.Store.{Body, Slot, empty, holds}
 use Rattle.reference.specs.Model.{Model, Order, grants, act, afterAt, anyByte, covers, ifNamed, isUnder, placed, tableOf}
 use Rattle.reference.proofs.SlotLaws.{placed-held}
-use Rattle.reference.proofs.Inv.{Inv, any-byte}
+use Rattle.reference.specs.AnyTable.{Invariant}
+use Rattle.reference.proofs.Inv.{any-byte}
 use Rattle.reference.proofs.Decode.{isHolding, named-is}
 use Rattle.slots.proofs.ClearLaws.{clearedSlots}
 use Rattle.slots.proofs.SearchLaws.{cleared-one, kept-named}
@@ -50,7 +51,7 @@ map-cleared t u f i (p ∷ ps) h =
     map-cleared t u f (suc i) ps (λ j k. let e : i + suc j ≡ suc i + j = omega arith in rw e at (h (suc j) (omega arith))) in
     λ k. first k ∷ rest k
 
-module _ (N : ℕ) (M : Model) (o : Order) (v : Inv N M) (w : Inv N (act N o M)) (rising : o .first ≤ o .last) (ends : o .last ≤ N) where
+module _ (N : ℕ) (M : Model) (o : Order) (v : Invariant N M) (w : Invariant N (act N o M)) (rising : o .first ≤ o .last) (ends : o .last ≤ N) where
   after-slot : (i : ℕ) → getD (act N o M .slots) i empty ≡ ifNamed N (act N o M .right) (getD (placed (o .deed) (M .slots)) i empty)
   unfolding act ifNamed
   after-slot i = List·getD-map (ifNamed N (act N o M .right)) (placed (o .deed) (M .slots)) i empty

@@ -1,23 +1,22 @@
 -- A return or a recall of the whole file, and a revoke, never need more segments than there were: they never meet 23.
 use Prim.Native.Nat.{ℕ, suc, _≤_, min}
 use mathlib.Core.Path.{_≡_, refl, ap}
-use mathlib.Core.Bool.{Bool, true, false, _&&_}
-use mathlib.Core.List.{List, [], _∷_}
+use mathlib.Core.Bool.{Bool, true, false}
+use mathlib.Core.List.{List}
 use native.Mathlib.Omega.{arith}
-use borrow.Author.Tests.{le-leb, leb-true}
-use lib.Dec.{eqb, leb}
-use lib.ListN.{length, drop, length-take}
+use borrow.Author.Tests.{le-leb}
+use lib.Dec.{eqb}
+use lib.ListN.{length, length-take}
 use Rattle.base.specs.Answer.{Answer, accepted, refused, given, pick}
 use Rattle.base.specs.Iomodes.{iomodeOf}
 use Rattle.base.specs.Lists.{Each}
 use Rattle.base.specs.Ranges.{lastByte, rangeLast, toTheEnd}
 use Rattle.base.specs.declared.iomode.Iomode.{Iomode}
 use Rattle.base.specs.declared.iomode.Iomode.the-variants.{Read, ReadWrite, Any}
-use Rattle.base.proofs.AnswerLaws.{both}
 use Rattle.segments.specs.declared.Segment.{Segment}
 use Rattle.segments.specs.declared.Segments.{Segments}
 use Rattle.segments.specs.declared.Table.{Table}
-use Rattle.segments.specs.Segments.{READ, RW, actsOn, listOf}
+use Rattle.segments.specs.Segments.{Mode, READ, RW, actsOn, listOf, segmentsFor}
 use Rattle.segments.proofs.Canon.{Below}
 use Rattle.lookup.specs.declared.range.Condition.the-variants.{Held}
 use Rattle.lookup.specs.Lookup.{satisfies, tableMeets}
@@ -26,46 +25,34 @@ use Rattle.table.specs.declared.change.Change.the-variants as change
 use Rattle.table.specs.Edits.{edited, editedIn, editedWhere, tableEdited}
 use Rattle.agreement.proofs.WholeEdits.{clear-whole-needs-no-more, recall-whole-needs-no-more}
 use Rattle.reference.specs.Model.{Event, Recall, Return, Revoke, recalls, returns, own, rangeOrder}
-use Rattle.reference.specs.Sound.{allBlank, inOrder, noTwoAlike, segmentsSound, slotsIn, slotsSound, sound}
-use Rattle.events.specs.Events.{InFile, afterRecall, called, carried, obeyed, refusedWith, settled}
+use Rattle.reference.specs.Sound.{sound}
+use Rattle.reference.specs.AnyTable.{EndsBy}
+use Rattle.reference.proofs.SoundParts.{listed, sounds}
+use Rattle.reference.proofs.FromSound.{ends-below}
+use Rattle.events.specs.Events.{afterRecall, called, carried, obeyed, refusedWith, settled}
 
 -- ---- the edit
-
-in-file-below : (l : List Segment) → Each InFile l → Below (suc lastByte) l
-unfolding Below
-in-file-below [] h = tt
-in-file-below (s ∷ l) h = (omega (arith, h .0), in-file-below l (h .1))
 
 -- a change that adds no segment when it is of the whole file
 abbrev Shrinks : Change → Type 0
 Shrinks c = (l : List Segment) → Below (suc lastByte) l → length (edited c 0 lastByte l) ≤ length l
 
 module _ (c : Change) (shrinks : Shrinks c) where
-  edit-fits : (b : Bool) (g : Segments) → leb (g .count) 32 ≡ true → Each InFile (listOf g) → editedWhere b c 0 lastByte g .fits ≡ true
+  edit-fits : (b : Bool) (g : Segments) → g .count ≤ 32 → Each (EndsBy lastByte) (listOf g) → editedWhere b c 0 lastByte g .fits ≡ true
   unfolding editedIn pick
   edit-fits false g few h = refl
   edit-fits true g few h =
-      let k : length (edited c 0 lastByte (listOf g)) ≤ length (listOf g) = shrinks (listOf g) (in-file-below (listOf g) h) in
+      let k : length (edited c 0 lastByte (listOf g)) ≤ length (listOf g) = shrinks (listOf g) (ends-below lastByte (listOf g) h) in
       let n : length (listOf g) ≡ min (g .count) (length (g .items)) = length-take (g .count) (g .items) in
-      let m : g .count ≤ 32 = leb-true (g .count) 32 few in
       let z : length (edited c 0 lastByte (listOf g)) ≤ 32 = omega arith in
       rw (le-leb (length (edited c 0 lastByte (listOf g))) 32 z) refl
 
-  module _ (t : Table) (store : List ℕ) (sounds : sound t store ≡ true) (read : Each InFile (listOf (t .read))) (rw-list : Each InFile (listOf (t .rw))) where
-    few : (g : Segments) → segmentsSound g ≡ true → leb (g .count) 32 ≡ true
-    unfolding segmentsSound
-    few g h =
-        both (leb (g .count) 32) (inOrder (listOf g)) (both (leb (g .count) 32 && inOrder (listOf g)) (allBlank (drop (g .count) (g .items))) h .0) .0
-
+  module _ (t : Table) (store : List ℕ) (judged-sound : sound t store ≡ true) (read : Each (EndsBy lastByte) (listOf (t .read))) (rw-list : Each (EndsBy lastByte) (listOf (t .rw))) where
     table-fits : (i : Iomode) → tableEdited c i 0 lastByte t .fits ≡ true
-    unfolding tableEdited pick sound
+    unfolding tableEdited pick
     table-fits i =
-        let lists = segmentsSound (t .read) && segmentsSound (t .rw) in
-        let slots = lists && slotsSound t store 8 0 in
-        let a = both (slots && noTwoAlike (slotsIn t store)) (eqb (length store) 32768) sounds .0 in
-        let b = both lists (slotsSound t store 8 0) (both slots (noTwoAlike (slotsIn t store)) a .0) .0 in
-        let w = both (segmentsSound (t .read)) (segmentsSound (t .rw)) b in
-        rw (edit-fits (actsOn i READ) (t .read) (few (t .read) (w .0)) read, edit-fits (actsOn i RW) (t .rw) (few (t .rw) (w .1)) rw-list) refl
+        let few : (m : Mode) → segmentsFor t m .count ≤ 32 = λ m. listed t store (sounds t store judged-sound) m .few in
+        rw (edit-fits (actsOn i READ) (t .read) (few READ) read, edit-fits (actsOn i RW) (t .rw) (few RW) rw-list) refl
 
     change-accepted : (i : Iomode) → carried c i 0 lastByte t store store .answer ≡ 0
     unfolding carried settled pick
@@ -83,7 +70,7 @@ iomode-answer number = go (eqb number 1) (eqb number 2) (eqb number 3)
     go false false true e = let z : _≡_ {A = ℕ} 0 1 = cc in omega arith
     go false false false e = let z : _≡_ {A = ℕ} 3 23 = cc in omega arith
 
-module _ (t : Table) (store : List ℕ) (read : Each InFile (listOf (t .read))) (rw-list : Each InFile (listOf (t .rw))) where
+module _ (t : Table) (store : List ℕ) (read : Each (EndsBy lastByte) (listOf (t .read))) (rw-list : Each (EndsBy lastByte) (listOf (t .rw))) where
   -- an event is judged where table and store are sound
   judged : (e : Event) → (sound t store ≡ true → obeyed (own e) t store .answer ≡ 23 → ⊥) → called e t store .answer ≡ 23 → ⊥
   unfolding called pick

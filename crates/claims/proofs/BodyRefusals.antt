@@ -19,7 +19,7 @@ use Rattle.claims.proofs.Faults.{FaultsIn, RefusalsIn, accepts, allIn, 
 
 -- ---- ranges and iomodes
 
-range-refusals : (offset len : ℕ) → RefusalsIn (5 ∷ []) (rangeLast offset len)
+pub range-refusals : (offset len : ℕ) → RefusalsIn (5 ∷ []) (rangeLast offset len)
 unfolding rangeLast requestLast
 range-refusals offset len = chosen _ accepts (tested-answer _ 5 (tested-answer _ 5 accepts refl) refl)
 

@@ -20,7 +20,7 @@ abbrev pub allIn : List ℕ → List ℕ → Bool
 allIn [] ms = true
 allIn (n ∷ ns) ms = isOneOf n ms && allIn ns ms
 
-in-wider : (ns ms : List ℕ) → allIn ns ms ≡ true → (n : ℕ) → isOneOf n ns ≡ true → isOneOf n ms ≡ true
+pub in-wider : (ns ms : List ℕ) → allIn ns ms ≡ true → (n : ℕ) → isOneOf n ns ≡ true → isOneOf n ms ≡ true
 in-wider [] ms i n h = absurd (false≢true h)
 in-wider (k ∷ ns) ms i n h = go (eqb n k) refl h (in-wider ns ms (both (isOneOf k ms) (allIn ns ms) i .1) n)
   where

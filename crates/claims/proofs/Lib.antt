@@ -1,2 +1,5 @@
-pub mod BodyRefusals
 pub mod Faults
+pub mod BodyRefusals
+pub mod BodySizes
+pub mod EventRefusals
+pub mod EndToEnd

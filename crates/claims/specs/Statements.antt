@@ -1,8 +1,8 @@
--- What the claims say of a refusal's number, of a place in a layout body, and of a piece of an I/O in a table.
+-- What the claims say of a refusal's number, of a place in a layout body, of a piece of an I/O in a table, of the mirror named, and of a grant of a byte.
 use Prim.Native.Nat.{ℕ, _+_, _-_, _≤_, _<_}
 use mathlib.Core.Path.{_≡_}
 use mathlib.Core.List.{List, [], _∷_}
-use mathlib.Core.Bool.{Bool, true, false, _||_}
+use mathlib.Core.Bool.{Bool, true, false, _&&_, _||_}
 use lib.Dec.{eqb}
 use lib.ListN.{getD, length}
 use Rattle.numbers.specs.Numbers.{beValue, bytesFrom}
@@ -12,6 +12,7 @@ use Rattle.server.specs.declared.item.Server.{Server}
 use Rattle.segments.specs.declared.Right.the-variants.{Granted}
 use Rattle.segments.specs.declared.Table.{Table}
 use Rattle.segments.specs.Segments.{Mode, RW, blank, listIn}
+use Rattle.reference.specs.Model.{Deed, grants, returns, recalls, revokes, Order, covers}
 use Rattle.route.specs.Routes.{iomodeFor}
 use Rattle.route.specs.declared.piece.Piece.{Piece}
 
@@ -40,3 +41,19 @@ pub record PieceStands (write : Bool) (t : Table) (offset : ℕ) (p : Piece) : T
   pub last : offset + p .length - 1 ≤ getD (listIn t mode) place blank .last
   pub right : getD (listIn t mode) place blank .right ≡ Granted (p .slot)
   pub in-rw : write ≡ true → mode ≡ RW
+
+-- mirror b of the first n has the highest efficiency of them, and the lowest number of those that have it
+pub record BestOf (efficiency : ℕ → ℕ) (n b : ℕ) : Type 0 where
+  pub below : b < n
+  pub highest : (m : ℕ) → m < n → efficiency m ≤ efficiency b
+  pub lowest : (m : ℕ) → m < b → efficiency m < efficiency b
+
+-- whether an accepted event grants byte x in iomode m
+abbrev pub isGrant : Deed → Bool
+isGrant (grants b) = true
+isGrant returns = false
+isGrant recalls = false
+isGrant revokes = false
+
+abbrev pub grantsByte : Mode → ℕ → Order → Bool
+grantsByte m x o = isGrant (o .deed) && covers o m x

@@ -1,49 +1,58 @@
 // The theorems that the documents cite, each as the `ensures` of an empty function, so that it stands before a reader's eyes and the gate fails if
 // it goes. A statement needs only the definitions that it names.
 //
-// Demand 1 and the first sentence of demand 2 are the contracts themselves: no public function has a `requires`, each returns, and its one
-// `ensures` is an equation with a definition in specs/, which quotes the scope paper. `layoutBody` is what `layout::read_layout` answers,
-// `layout4` `layout4::read_layout4`, `deviceBody` `device::read_device`, `boundTo` `binding::bind`, `reportBody` `report::read_reports`,
-// `reportsWritten` both writers of reports, `called` the four events, `routed` `route::locate`, `calledOn` the exported events. Here stands what
-// follows from these, and demand 3.
+// The three demands come first, then what follows from each. Of demand 1 "every call ends with an answer" and of demand 2 the first sentence are the
+// contracts themselves: no public function has a `requires`, each returns, and its one `ensures` is an equation with a definition in specs/, which
+// quotes the scope paper. `layoutBody` is what `layout::read_layout` answers, `layout4` `layout4::read_layout4`, `deviceBody` `device::read_device`,
+// `boundTo` `binding::bind`, `reportBody` `report::read_reports`, `reportsWritten` both writers of reports, `called` the four events, `routed`
+// `route::locate`, `calledOn` the exported events.
 //
 // `accepted v` is an answer with its value, `refused n` a refusal with the scope paper's number, and `n ≡ 0 → ⊥` says that n is not 0.
 ghost use Prim.Native.Nat.{ℕ, _+_, _-_, _*_, _/_, _%_, _^_, _<_, _≤_};
 ghost use mathlib.Core.Path.{_≡_};
 ghost use mathlib.Core.Logic.{_⊎_};
-ghost use mathlib.Core.Bool.{Bool, true};
-ghost use mathlib.Core.List.{List, [], _∷_, map};
+ghost use mathlib.Core.Bool.{Bool, true, false, not, _&&_};
+ghost use mathlib.Core.List.{List, [], _∷_, _++_, map};
 ghost use lib.ListN.{getD, length, replicate, take};
-ghost use Rattle.base.specs.Answer.{accepted, refused};
+ghost use Rattle.base.specs.Answer.{accepted, refused, given};
+ghost use Rattle.base.specs.Bits.{bit};
 ghost use Rattle.numbers.specs.Numbers.{AllBytes, beBytes, beValue};
 ghost use Rattle.server.specs.declared.item.Server.{Server};
 ghost use Rattle.layout.specs.Layouts.{Layout, layoutBody, startsOf};
-ghost use Rattle.layout4.specs.Layout4s.{layout4};
+ghost use Rattle.layout4.specs.Layout4s.{Whole, layout4};
 ghost use Rattle.device.specs.Bodies.{deviceBody};
 ghost use Rattle.binding.specs.Bindings.{boundTo};
 ghost use Rattle.report.specs.Reports.{Report, reportBody};
 ghost use Rattle.report.specs.Answers.{headsOf};
 ghost use Rattle.report.specs.declared.ReportHead.{ReportHead};
 ghost use Rattle.report_write.specs.Places.{HeadFits, RecordFits, placed, recordsIn};
-ghost use Rattle.report_write.specs.Writing.{ErrorRecord, outputAfter, reportsWritten};
+ghost use Rattle.report_write.specs.Writing.{ErrorRecord, counts, outputAfter, reportsWritten};
 ghost use Rattle.base.specs.Lists.{Each};
-ghost use Rattle.base.specs.Ranges.{toTheEnd};
+ghost use Rattle.base.specs.Ranges.{lastByte, requestLast, toTheEnd};
 ghost use Rattle.segments.specs.declared.Table.{Table};
-ghost use Rattle.segments.specs.Segments.{RW, emptyTable, listIn, listOf, rightAt};
+ghost use Rattle.segments.specs.Segments.{READ, RW, emptyTable, listIn, listOf, rightAt};
 ghost use Rattle.segments.specs.declared.Right.the-variants.{Granted};
 ghost use Rattle.route.specs.declared.piece.Piece.{Piece};
+ghost use Rattle.route.specs.Mirrors.{efficiencyOf};
+ghost use Rattle.route.specs.Rights.{servedByRights, servedOf};
 ghost use Rattle.route.specs.Routes.{layoutIn, routed};
-ghost use Rattle.reference.specs.Claim.{Calls, Demand3, Fits, storeLeft, tableLeft};
+ghost use Rattle.store.specs.Store.{bodyIn, slotAt};
+ghost use Rattle.reference.specs.AnyTable.{EndsBy, OfModel, Typed, leftBy, modelOf};
+ghost use Rattle.reference.specs.Claim.{Calls, Demand3, Fits, acceptedOf, answered, rightGiven, storeLeft, tableLeft};
 ghost use Rattle.reference.specs.Cases as cases;
+ghost use Rattle.reference.specs.Cases.{bodyOf, grantBytes};
 ghost use Rattle.reference.specs.StandIns.{changesNothing, firstOnly, refusesAll};
-ghost use Rattle.reference.specs.Sound.{sound};
-ghost use Rattle.reference.specs.Model.{Event, Recall, Return, Revoke};
-ghost use Rattle.events.specs.Events.{InFile, called};
+ghost use Rattle.reference.specs.Sound.{isAccepted, sound};
+ghost use Rattle.reference.specs.Model.{Event, Grant, Order, Recall, Return, Revoke, covers, none, recalls};
+ghost use Rattle.events.specs.Events.{called};
 ghost use Rattle.examples.specs.Examples.{Holds, examples};
 ghost use Rattle.record.specs.Records.{recordOf, tableIn};
 ghost use Rattle.record.specs.declared.types.TableRecord.{TableRecord};
 ghost use Rattle.driver.specs.Calls.{calledOn, recorded};
-ghost use Rattle.claims.specs.Statements.{PieceStands, ServerStands, isOneOf};
+ghost use Rattle.driver.specs.Lists.{Demand3OnRecords};
+ghost use Rattle.claims.specs.Statements.{BestOf, PieceStands, ServerStands, grantsByte, isOneOf};
+
+// ==== The three demands
 
 // ---- Demand 1: a refusal changes nothing, and nothing else is refused
 
@@ -86,13 +95,84 @@ pub fn bindings_refuse_as_listed()
         ⊎ ((n ≡ 16) ⊎ ((n ≡ 8) ⊎ ((n ≡ 13) ⊎ ((n ≡ 14) ⊎ (n ≡ 15))))))) ⌝ }
 {}
 
+// "Nothing else is refused", of events, on whatever table and store: the numbers that each can be answered, 0 for accepted. (A revoke on a table of
+// 64-bit numbers: it never meets 23.)
+pub fn events_refuse_as_listed()
+    ensures { λ r. ⌜ ((t : Table) (store bytes : List ℕ) → isOneOf (called (Grant bytes) t store .answer)
+        (0 ∷ 20 ∷ 1 ∷ 2 ∷ 3 ∷ 4 ∷ 5 ∷ 6 ∷ 8 ∷ 9 ∷ 10 ∷ 11 ∷ 21 ∷ 22 ∷ 24 ∷ 23 ∷ []) ≡ true)
+        × ((t : Table) (store : List ℕ) (offset len number : ℕ)
+        → isOneOf (called (Return offset len number) t store .answer) (0 ∷ 20 ∷ 5 ∷ 3 ∷ 23 ∷ []) ≡ true)
+        × ((t : Table) (store : List ℕ) (offset len number : ℕ)
+        → isOneOf (called (Recall offset len number) t store .answer) (0 ∷ 20 ∷ 5 ∷ 3 ∷ 25 ∷ 23 ∷ []) ≡ true)
+        × ((t : Table) (store : List ℕ) → Each (EndsBy lastByte) (listOf (t .read)) → Each (EndsBy lastByte) (listOf (t .rw))
+        → isOneOf (called Revoke t store .answer) (0 ∷ 20 ∷ []) ≡ true) ⌝ }
+{}
+
 // "Nothing else is refused": an I/O request is refused with 20, 5 or 17. It reads the layout body of a granted segment, and that never fails.
 pub fn requests_refuse_as_listed()
     ensures { λ r. ⌜ ((write : Bool) (t : Table) (store : List ℕ) (offset len n : ℕ) → routed write t store offset len ≡ refused n
         → (n ≡ 20) ⊎ (n ≡ 5) ⊎ (n ≡ 17)) ⌝ }
 {}
 
-// ---- Demand 2: bodies
+// ---- Demand 2: each offset goes to its stripe and server
+
+// "Each offset goes to the stripe and server of the sparse mapping, at full 64 bits": each byte x of an answered piece has the stripe (x div unit)
+// mod servers of the layout body in the answered slot, which is the stripe answered; with one server it is 0. The stripe is below the server count
+// and the mirrors are some of the layout's, so that at (mirror, stripe) stands a data server (`starts_are_servers`).
+pub fn pieces_go_to_their_stripe()
+    ensures { λ r. ⌜ ((write : Bool) (t : Table) (store : List ℕ) (offset len : ℕ) (p : Piece) (l : Layout)
+        → routed write t store offset len ≡ accepted p → layoutIn store (p .slot .0) ≡ accepted l
+        → (l .summary .servers ≡ 1 → p .stripe .0 ≡ 0)
+        × (1 < l .summary .servers → (x : ℕ) → offset ≤ x → x < offset + p .length → p .stripe .0 ≡ x / l .summary .unit % l .summary .servers)
+        × (p .stripe .0 < l .summary .servers)
+        × (1 ≤ p .mirrors) × (p .mirrors < 2 ^ l .summary .mirrors)) ⌝ }
+{}
+
+// At each used start of an accepted body stands a data server, its device id, efficiency, stateid and filehandle count where RFC 8435 has them.
+pub fn starts_are_servers()
+    ensures { λ r. ⌜ ((s : List ℕ) (l : Layout) → layoutBody s ≡ accepted l
+        → (m k : ℕ) → m < l .summary .mirrors → k < l .summary .servers → ServerStands s (getD (l .starts) (m * 16 + k) 0)) ⌝ }
+{}
+
+// ---- Demand 3: the table is the reference model's
+
+// Demand 3, undivided, of the calls that grant, layout_return, recall and revoke are proved to be (the `ensures` in events/src/grants.rt and
+// ranges.rt): after every list of events from the empty table and the zeroed store their answers, table and store are those of the reference model,
+// which the scope paper calls the ledger (reference/specs/Model.antt). `Agreed` in reference/specs/Claim.antt has one field for each sentence.
+pub fn demand_3()
+    ensures { λ r. ⌜ Demand3 called ⌝ }
+{}
+
+// Demand 3 and where an I/O goes, joined: after every list of events an I/O is served exactly as the rights say that the accepted events give its first
+// byte (`servedByRights`). A write is answered where that byte is granted in RW, under the body of that grant; a read where it is granted in READ, or else in
+// RW under a body without flag 4; elsewhere the answer is 17. A request that is out of order is 5, and 20 never comes.
+pub fn io_goes_by_the_rights_that_events_give()
+    ensures { λ r. ⌜ ((es : List Event) → Each Fits es → (write : Bool) (offset len : ℕ)
+        → given (routed write (tableLeft called es emptyTable (replicate 32768 0)) (storeLeft called es emptyTable (replicate 32768 0)) offset len)
+        (λ p. accepted (servedOf (storeLeft called es emptyTable (replicate 32768 0)) p))
+        ≡ given (requestLast offset len) (λ last. servedByRights write
+        (rightGiven (acceptedOf es (answered called es emptyTable (replicate 32768 0))) READ offset none)
+        (rightGiven (acceptedOf es (answered called es emptyTable (replicate 32768 0))) RW offset none))) ⌝ }
+{}
+
+// The customer's complaint, "a table that has written after a recall": where a recall that covers a byte in RW is among the accepted events, and no grant
+// that covers it there comes after, no write is answered at that byte.
+pub fn no_write_after_a_recall()
+    ensures { λ r. ⌜ ((es : List Event) → Each Fits es → (before : List Order) (o : Order) (after : List Order)
+        → acceptedOf es (answered called es emptyTable (replicate 32768 0)) ≡ before ++ (o ∷ after) → o .deed ≡ recalls
+        → (offset len : ℕ) → covers o RW offset ≡ true → Each (λ o. grantsByte RW offset o ≡ false) after → (p : Piece)
+        → routed true (tableLeft called es emptyTable (replicate 32768 0)) (storeLeft called es emptyTable (replicate 32768 0)) offset len ≡ accepted p
+        → ⊥) ⌝ }
+{}
+
+// Demand 3 of the functions that C links: over every list of calls, each handed the record and the store that the last one left.
+pub fn demand_3_of_exported_functions()
+    ensures { λ r. ⌜ Demand3OnRecords calledOn ⌝ }
+{}
+
+// ==== What follows
+
+// ---- From demand 2, of bodies
 
 // A number that was written in k bytes is read back, for every width k.
 pub fn numbers_written_are_read()
@@ -111,16 +191,22 @@ pub fn starts_are_by_mirror_and_stripe()
         → (m k : ℕ) → k < 16 → getD (startsOf mirrors) (m * 16 + k) 0 ≡ getD (map (λ v. v .device) (getD mirrors m [])) k 0) ⌝ }
 {}
 
-// At each used start of an accepted body stands a data server, its device id, efficiency, stateid and filehandle count where RFC 8435 has them.
-pub fn starts_are_servers()
-    ensures { λ r. ⌜ ((s : List ℕ) (l : Layout) → layoutBody s ≡ accepted l
-        → (m k : ℕ) → m < l .summary .mirrors → k < l .summary .servers → ServerStands s (getD (l .starts) (m * 16 + k) 0)) ⌝ }
-{}
-
 // "with 0 in unused places".
 pub fn other_starts_are_zero()
     ensures { λ r. ⌜ ((s : List ℕ) (l : Layout) → layoutBody s ≡ accepted l
         → (m k : ℕ) → k < 16 → (l .summary .mirrors ≤ m) ⊎ (l .summary .servers ≤ k) → getD (l .starts) (m * 16 + k) 0 ≡ 0) ⌝ }
+{}
+
+// "The smallest accepted body has 80 bytes"; of layout4 "The smallest has 108 bytes": no accepted one has fewer, and one has so many. "By these counts a body
+// has at most 3,368 bytes ..; one report with one error has 68": 8 bytes, 36 a report and 24 an error.
+pub fn bodies_have_their_sizes()
+    ensures { λ r. ⌜ ((s : List ℕ) (l : Layout) → layoutBody s ≡ accepted l → 80 ≤ length s)
+        × ((isAccepted (layoutBody (bodyOf 0 1 0)) ≡ true) × (length (bodyOf 0 1 0) ≡ 80))
+        × ((s : List ℕ) (w : Whole) → layout4 s ≡ accepted w → 108 ≤ length s)
+        × ((isAccepted (layout4 (grantBytes 0 1 2 0)) ≡ true) × (length (grantBytes 0 1 2 0) ≡ 108))
+        × ((s : List ℕ) (rs : List Report) → reportBody s ≡ accepted rs
+        → (length s ≡ 8 + 36 * length rs + 24 * counts (map (λ r. r .head) rs)) × (length s ≤ 3368))
+        × ((s : List ℕ) (r : Report) → reportBody s ≡ accepted (r ∷ []) → r .head .errors ≡ 1 → length s ≡ 68) ⌝ }
 {}
 
 // Reading what was written gives the same reports, and at their places the same errors, for values that their fields can hold. The first report
@@ -143,19 +229,7 @@ pub fn no_report_is_eight_zeros()
         × (reportBody (replicate 8 0) ≡ accepted []) ⌝ }
 {}
 
-// ---- Demand 2: where an I/O goes
-
-// "Each offset goes to the stripe and server of the sparse mapping, at full 64 bits": each byte x of an answered piece has the stripe (x div unit)
-// mod servers of the layout body in the answered slot, which is the stripe answered; with one server it is 0. The stripe is below the server count
-// and the mirrors are some of the layout's, so that at (mirror, stripe) stands a data server (`starts_are_servers`).
-pub fn pieces_go_to_their_stripe()
-    ensures { λ r. ⌜ ((write : Bool) (t : Table) (store : List ℕ) (offset len : ℕ) (p : Piece) (l : Layout)
-        → routed write t store offset len ≡ accepted p → layoutIn store (p .slot .0) ≡ accepted l
-        → (l .summary .servers ≡ 1 → p .stripe .0 ≡ 0)
-        × (1 < l .summary .servers → (x : ℕ) → offset ≤ x → x < offset + p .length → p .stripe .0 ≡ x / l .summary .unit % l .summary .servers)
-        × (p .stripe .0 < l .summary .servers)
-        × (1 ≤ p .mirrors) × (p .mirrors < 2 ^ l .summary .mirrors)) ⌝ }
-{}
+// ---- From demand 2, of where an I/O goes
 
 // Where an I/O goes: an answered piece begins with its request, is not empty and not longer, and with more than one server lies in one stripe unit.
 pub fn pieces_lie_in_request_and_unit()
@@ -177,32 +251,56 @@ pub fn writes_need_a_grant()
         → rightAt (listIn t RW) offset ≡ Granted (p .slot)) ⌝ }
 {}
 
-// ---- Demand 3
-
-// Demand 3, undivided, of the calls that grant, layout_return, recall and revoke are proved to be (the `ensures` in events/src/grants.rt and
-// ranges.rt): after every list of events from the empty table and the zeroed store their answers, table and store are those of the reference model,
-// which the scope paper calls the ledger (reference/specs/Model.antt). `Agreed` in reference/specs/Claim.antt has one field for each sentence.
-pub fn demand_3()
-    ensures { λ r. ⌜ Demand3 called ⌝ }
+// "A read names one mirror: the highest efficiency, lowest number on a tie; each mirror is judged by the efficiency of its first data server .. A write
+// names all mirrors .. or with flag 8 only the mirror that this same rule picks in the write's own body." `efficiencyOf body starts 0 m` is that of mirror
+// m's first server. The mirrors are a set of bits.
+pub fn mirrors_are_named_by_efficiency()
+    ensures { λ r. ⌜ ((write : Bool) (t : Table) (store : List ℕ) (offset len : ℕ) (p : Piece) (l : Layout)
+        → routed write t store offset len ≡ accepted p → layoutIn store (p .slot .0) ≡ accepted l
+        → ((write && not (bit 8 (l .summary .flags))) ≡ true → p .mirrors ≡ 2 ^ l .summary .mirrors - 1)
+        × ((write && not (bit 8 (l .summary .flags))) ≡ false → (b : ℕ) × (p .mirrors ≡ 2 ^ b)
+        × BestOf (efficiencyOf (bodyIn (slotAt store (p .slot .0))) (l .starts) 0) (l .summary .mirrors) b)) ⌝ }
 {}
 
-// Demand 3 fails of calls that refuse everything with one number, of calls that answer as any others do and change nothing, and of calls that obey
-// any others while nothing is held and then answer as any others do and change nothing.
+// ---- From demand 3
+
+// Demand 3 of tables of whatever origin: on every sound table and store, as their types have them (`Typed`), an event is the step of the model that
+// they show: its answer is the model's, and it leaves the table and the store of the model after the event.
+pub fn events_on_any_table()
+    ensures { λ r. ⌜ ((e : Event) (t : Table) (store : List ℕ) → Fits e → Typed lastByte t store → sound t store ≡ true
+        → called e t store ≡ leftBy e (modelOf t store)) ⌝ }
+{}
+
+// Soundness is: being the table and the store of some model, one that keeps the invariant of every model after a list of events.
+pub fn sound_is_of_a_model()
+    ensures { λ r. ⌜ ((t : Table) (store : List ℕ) → Typed lastByte t store → sound t store ≡ true → OfModel t store)
+        × ((t : Table) (store : List ℕ) → OfModel t store → sound t store ≡ true) ⌝ }
+{}
+
+// Demand 3 fails of calls that refuse everything, with whatever numbers, of calls that answer as any others do and change nothing, and of calls that
+// obey any others while nothing is held and then answer as any others do and change nothing.
 pub fn stand_ins_fall()
-    ensures { λ r. ⌜ ((n : ℕ) → (n ≡ 0 → ⊥) → Demand3 (refusesAll n) → ⊥)
+    ensures { λ r. ⌜ ((number : Event → Table → List ℕ → ℕ) → ((e : Event) (t : Table) (store : List ℕ) → number e t store ≡ 0 → ⊥)
+        → Demand3 (refusesAll number) → ⊥)
         × ((call : Calls) → Demand3 (changesNothing call) → ⊥)
         × ((call later : Calls) → Demand3 (firstOnly call later) → ⊥) ⌝ }
 {}
 
-// After every list of events table and store are sound. `called` refuses with 20 only where they are not, so after calls alone 20 never comes.
+// After every list of events table and store are sound.
 pub fn events_leave_sound_tables()
     ensures { λ r. ⌜ ((es : List Event) → Each Fits es
         → sound (tableLeft called es emptyTable (replicate 32768 0)) (storeLeft called es emptyTable (replicate 32768 0)) ≡ true) ⌝ }
 {}
 
-// "a whole-file recall or return (offset 0, length 2^64 - 1) and a revoke never meet 23", on whatever table of 64-bit numbers (`InFile`).
+// "20 never comes": no event of a list from the empty table is answered 20.
+pub fn no_list_meets_20()
+    ensures { λ r. ⌜ ((es : List Event) → Each Fits es → Each (λ n. n ≡ 20 → ⊥) (answered called es emptyTable (replicate 32768 0))) ⌝ }
+{}
+
+// "a whole-file recall or return (offset 0, length 2^64 - 1) and a revoke never meet 23", on whatever table of 64-bit numbers.
 pub fn whole_file_events_always_fit()
-    ensures { λ r. ⌜ ((t : Table) (store : List ℕ) → Each InFile (listOf (t .read)) → Each InFile (listOf (t .rw)) → (number : ℕ)
+    ensures { λ r. ⌜ ((t : Table) (store : List ℕ)
+        → Each (EndsBy lastByte) (listOf (t .read)) → Each (EndsBy lastByte) (listOf (t .rw)) → (number : ℕ)
         → (called (Return 0 toTheEnd number) t store .answer ≡ 23 → ⊥)
         × (called (Recall 0 toTheEnd number) t store .answer ≡ 23 → ⊥)
         × (called Revoke t store .answer ≡ 23 → ⊥)) ⌝ }
@@ -214,19 +312,20 @@ pub fn records_stand_for_tables()
         × ((given : TableRecord) (t : Table) → tableIn given ≡ accepted t → recordOf t ≡ given) ⌝ }
 {}
 
-// The exported events are the events: on the record of a table they leave the record of the table that `called` leaves. So demand 3 is theirs.
+// The exported events are the events: on the record of a table they leave the record of the table that `called` leaves.
 pub fn exported_events_are_the_events()
     ensures { λ r. ⌜ ((e : Event) (t : Table) (store : List ℕ) → calledOn e (recordOf t) store ≡ recorded (called e t store)) ⌝ }
 {}
 
 // ---- Worked examples
 
-// The starred lines of the scope paper's worked examples, one list of cases of one type, in examples/specs/Examples.antt.
+// The starred lines of the scope paper's worked examples, one list of cases of one type, in examples/specs/Examples.antt; those with events on a file of
+// 2^64 bytes.
 pub fn worked_examples_hold()
     ensures { λ r. ⌜ Each Holds examples ⌝ }
 {}
 
-// Other worked examples of the table, computed on the reference model for short files: answers and segments of each list of events.
+// Other worked examples of the table, on a file of 2^64 bytes: answers and segments of each list of events.
 pub fn table_examples_hold()
     ensures { λ r. ⌜ Each cases.Holds cases.cases ⌝ }
 {}

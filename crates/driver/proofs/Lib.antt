@@ -1,4 +1,5 @@
 pub mod CallLaws
 pub mod Unchanged
+pub mod ListLaws
 pub mod ReportLaws
 pub mod FieldArray

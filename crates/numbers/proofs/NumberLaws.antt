@@ -136,3 +136,12 @@ be-back (suc k) bs h b =
     let r : beValue bs % 256 ≡ x = omega arith in
     let n : length i ≡ k = simp length-take (omega arith) in
     rw (q, r, be-back k i n (taken-bytes k bs b)) (sym (last-byte k bs h))
+
+pub le-back : (bs : List ℕ) → AllBytes bs → leBytes (length bs) (leValue bs) ≡ bs
+unfolding leBytes leValue
+le-back [] h = refl
+le-back (b ∷ bs) h =
+    let c : b < 256 = h 0 in
+    let q : (leValue bs * 256 + b) / 256 ≡ leValue bs = omega arith in
+    let r : (leValue bs * 256 + b) % 256 ≡ b = omega arith in
+    rw (q, r, le-back bs (λ i. h (suc i)))

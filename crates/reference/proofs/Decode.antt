@@ -24,7 +24,7 @@ use Rattle.reference.specs.Model.{ByteRight, none, granted, recalled, Mo
 use Rattle.reference.specs.Sound.{noTwoAlike, slotsFrom, slotsIn}
 use Rattle.reference.specs.Claim.{rightIn, underSlot, withBody}
 use Rattle.reference.proofs.SlotLaws.{empty-holds, held-body, held-slot, in-found}
-use Rattle.reference.proofs.Inv.{Housed, Inv}
+use Rattle.reference.specs.AnyTable.{Housed, Invariant}
 
 -- ---- segments
 
@@ -107,7 +107,7 @@ named-by N M i =
     (ap (anyNames i) (list-in N M READ) ∙ names-scan N (λ x. withSlot (M .slots) (M .right READ x)) i)
     (ap (anyNames i) (list-in N M RW) ∙ names-scan N (λ x. withSlot (M .slots) (M .right RW x)) i)
 
-module _ (N : ℕ) (M : Model) (v : Inv N M) where
+module _ (N : ℕ) (M : Model) (v : Invariant N M) where
   pub named-is : (i : ℕ) → isNamed (tableOf N M) i ≡ isHolding (getD (M .slots) i empty)
   unfolding anyByte
   named-is i = named-by N M i ∙ go (getD (M .slots) i empty) refl

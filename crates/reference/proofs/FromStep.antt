@@ -19,21 +19,14 @@ use Rattle.segments.proofs.ScanLaws.{segments-below, segments-past}
 use Rattle.store.specs.Store.{Slot, empty, slotBytes, storeOf}
 use Rattle.reference.specs.Model.{none, Event, Model, Order, act, afterAt, answerTo, answers, ifAccepted, modelAfter, own, run, segmentsIn, start, tableOf, verdict, withSlot}
 use Rattle.reference.specs.Sound.{slotsIn}
-use Rattle.reference.specs.Claim.{Agreed, Calls, Confined, Demand3, EachConfined, Fits, CallResult, Ordered, Showing, acceptedOf, answered, inReach, rightGiven, rightIn, storeLeft, tableLeft, withBody}
+use Rattle.reference.specs.Claim.{Agreed, Calls, Confined, Demand3, EachConfined, Fits, Ordered, Showing, acceptedOf, answered, inReach, rightGiven, rightIn, storeLeft, tableLeft, withBody}
 use Rattle.reference.proofs.Laws.{run-right}
 use Rattle.reference.proofs.Bodies.{fewest-showing}
-use Rattle.reference.proofs.Inv.{Inv, after-keeps, no-segments, start-keeps}
+use Rattle.reference.specs.AnyTable.{Invariant, leftBy}
+use Rattle.reference.proofs.Inv.{after-keeps, no-segments, start-keeps}
 use Rattle.reference.proofs.Decode.{list-in, right-back, shown, slots-back, with-back}
 use Rattle.reference.proofs.SoundLaws.{model-canon}
 use Rattle.reference.proofs.OwnLaws.{own-small}
-
--- the call that follows the model: its answer, and the table and the store of the model after the event
-unfoldable pub leftBy : Event → Model → CallResult
-leftBy e M = record {
-  answer = answerTo lastByte (own e) M;
-  table = tableOf lastByte (modelAfter lastByte (own e) M);
-  store = storeOf (modelAfter lastByte (own e) M .slots);
-}
 
 -- ---- the start
 
@@ -53,10 +46,10 @@ start-store = empty-store 8
 
 -- ---- events keep the invariant
 
-pub event-keeps : (N : ℕ) (e : Event) (M : Model) → Fits e → Inv N M → Inv N (modelAfter N (own e) M)
+pub event-keeps : (N : ℕ) (e : Event) (M : Model) → Fits e → Invariant N M → Invariant N (modelAfter N (own e) M)
 event-keeps N e M f v = after-keeps N (own e) M (own-small e f) v
 
-pub run-keeps : (N : ℕ) (es : List Event) (M : Model) → Each Fits es → Inv N M → Inv N (run N es M)
+pub run-keeps : (N : ℕ) (es : List Event) (M : Model) → Each Fits es → Invariant N M → Invariant N (run N es M)
 unfolding run
 run-keeps N [] M f v = v
 run-keeps N (e ∷ es) M f v = run-keeps N es (modelAfter N (own e) M) (f .1) (event-keeps N e M (f .0) v)
@@ -81,7 +74,7 @@ refused-still N (accepted o) M h = go (verdict N o M) h
     go zero k = absurd (k refl)
     go (suc n) k = refl
 
-confined-step : (e : Event) (M : Model) → Fits e → Inv lastByte M → Confined e (tableOf lastByte M) (storeOf (M .slots)) (leftBy e M)
+confined-step : (e : Event) (M : Model) → Fits e → Invariant lastByte M → Confined e (tableOf lastByte M) (storeOf (M .slots)) (leftBy e M)
 unfolding leftBy
 confined-step e M f v =
     let M' = modelAfter lastByte (own e) M in
@@ -115,7 +108,7 @@ model-ordered ss lo r (s ∷ l) c b h =
         let e : rightAt (s ∷ l) x ≡ rightAt l x = at-past s l x (omega arith) in
         h x (λ j. n (sym e ∙ j)) (ap (withBody ss) e ∙ k)
 
-module _ (M : Model) (v : Inv lastByte M) where
+module _ (M : Model) (v : Invariant lastByte M) where
   shown-body : (m : Mode) (x : ℕ) → (rightAt (segmentsIn lastByte M m) x ≡ None → ⊥)
       → withBody (M .slots) (rightAt (segmentsIn lastByte M m) x) ≡ none → ⊥
   unfolding segmentsIn
@@ -165,7 +158,7 @@ module _ (M : Model) (v : Inv lastByte M) where
 
 -- ---- a list of calls
 
-module _ (call : Calls) (steps : (e : Event) (M : Model) → Fits e → Inv lastByte M → call e (tableOf lastByte M) (storeOf (M .slots)) ≡ leftBy e M) where
+module _ (call : Calls) (steps : (e : Event) (M : Model) → Fits e → Invariant lastByte M → call e (tableOf lastByte M) (storeOf (M .slots)) ≡ leftBy e M) where
   -- what the calls leave is the model's
   abbrev Follows : List Event → Table → List ℕ → Model → Type 0
   Follows es t store M =
@@ -174,7 +167,7 @@ module _ (call : Calls) (steps : (e : Event) (M : Model) → Fits e → Inv last
       × (storeLeft call es t store ≡ storeOf (run lastByte es M .slots))
       × EachConfined call es t store
 
-  follows : (es : List Event) (M : Model) → Each Fits es → Inv lastByte M → Follows es (tableOf lastByte M) (storeOf (M .slots)) M
+  follows : (es : List Event) (M : Model) → Each Fits es → Invariant lastByte M → Follows es (tableOf lastByte M) (storeOf (M .slots)) M
   unfolding answered tableLeft storeLeft EachConfined answers run leftBy
   follows [] M f v = (refl, refl, refl, tt)
   follows (e ∷ es) M f v =
@@ -187,7 +180,7 @@ module _ (call : Calls) (steps : (e : Event) (M : Model) → Fits e → Inv last
         (confined-step e M (f .0) v, r .3),
       )
 
-  follows-from : (t : Table) (store : List ℕ) (es : List Event) (M : Model) → t ≡ tableOf lastByte M → store ≡ storeOf (M .slots) → Each Fits es → Inv lastByte M
+  follows-from : (t : Table) (store : List ℕ) (es : List Event) (M : Model) → t ≡ tableOf lastByte M → store ≡ storeOf (M .slots) → Each Fits es → Invariant lastByte M
       → Follows es t store M
   follows-from t store es M p q f v = rw (p, q) (follows es M f v)
 

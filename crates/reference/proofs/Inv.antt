@@ -9,25 +9,19 @@ use borrow.Author.Tests.{ltb-false}
 use lib.Dec.{ltb}
 use lib.ListN.{length, getD, replicate, length-map}
 use Rattle.numbers.proofs.SameLaws.{same-refl}
-use Rattle.numbers.specs.Numbers.{AllBytes}
 use Rattle.base.specs.Answer.{Answer, accepted, refused, pick}
-use Rattle.layout.specs.Layouts.{layoutBody}
 use Rattle.segments.specs.declared.Right.the-variants as table
 use Rattle.segments.specs.Segments.{Mode, READ, RW, anyBelow, segmentsOf}
 use Rattle.segments.proofs.Canon.{Below, Canon, at-none}
 use Rattle.segments.proofs.Fewest.{scan-only}
 use Rattle.segments.proofs.ScanLaws.{any-some}
 use Rattle.store.specs.Store.{Body, Slot, empty, holds}
-use Rattle.reference.specs.Model.{ByteRight, none, granted, recalled, Deed, grants, returns, recalls, revokes, Model, Order, act, afterAt, anyByte, covers, ifAccepted, ifNamed, inSlots, isUnder, meets, modelAfter, placed, refuse, rightAfter, segmentsIn, start, stops21, stops22, stops24, stops25, tooMany, verdict}
-use Rattle.reference.specs.Sound.{isAccepted, noTwoAlike}
+use Rattle.reference.specs.Model.{ByteRight, none, granted, recalled, Deed, grants, returns, recalls, revokes, Model, Order, act, afterAt, anyByte, covers, ifAccepted, ifNamed, isUnder, meets, modelAfter, placed, refuse, rightAfter, segmentsIn, start, stops21, stops22, stops24, stops25, tooMany, verdict}
+use Rattle.reference.specs.Sound.{noTwoAlike}
+use Rattle.reference.specs.AnyTable.{GoodBody, Housed, Invariant}
 use Rattle.reference.proofs.SlotLaws.{emptied-apart, emptied-held, granted-in, empty-holds, named-in, placed-apart, placed-held, placed-in, placed-length}
 
 -- ---- bodies that an event may bring
-
-pub record GoodBody (b : Body) : Type 0 where
-  pub read : isAccepted (layoutBody b) ≡ true
-  pub small : length b ≤ 4090
-  pub bytes : AllBytes b
 
 abbrev pub GoodDeed : Deed → Type 0
 GoodDeed (grants b) = GoodBody b
@@ -62,22 +56,6 @@ passes N o M e =
     let f = refuse-zero 22 _ _ (d .1) in
     record { not-21 = a .0; not-22 = b .0; not-25 = c .0; not-24 = d .0; not-23 = f .0 }
 
--- ---- the invariant
-
--- the body of a right is in a slot
-abbrev pub Housed : List Slot → ByteRight → Type 0
-Housed ss none = Unit {0}
-Housed ss (granted b) = inSlots b ss ≡ true
-Housed ss (recalled b) = inSlots b ss ≡ true
-
-pub record Inv (N : ℕ) (M : Model) : Type 0 where
-  pub eight : length (M .slots) ≡ 8
-  pub apart : noTwoAlike (M .slots) ≡ true
-  pub good : (i : ℕ) (b : Body) → getD (M .slots) i empty ≡ holds b → GoodBody b
-  pub housed : (m : Mode) (x : ℕ) → x ≤ N → Housed (M .slots) (M .right m x)
-  pub few : (m : Mode) → length (segmentsIn N M m) ≤ 32
-  pub named : (i : ℕ) (b : Body) → getD (M .slots) i empty ≡ holds b → anyByte N (λ m x. isUnder b (M .right m x)) ≡ true
-
 -- ---- at the start
 
 all-empty : (n i : ℕ) → getD (replicate n empty) i empty ≡ empty
@@ -89,7 +67,7 @@ pub no-segments : (N : ℕ) → [] ≡ segmentsOf N (λ x. table.None)
 unfolding Canon Below
 no-segments N = scan-only N (λ x. table.None) [] tt tt (λ x h. at-none x)
 
-pub start-keeps : (N : ℕ) → Inv N start
+pub start-keeps : (N : ℕ) → Invariant N start
 unfolding noTwoAlike segmentsIn
 start-keeps N =
     record {
@@ -158,7 +136,7 @@ good-placed : (d : Deed) (ss : List Slot) → GoodDeed d → ((i : ℕ) (b : Bod
     → (i : ℕ) (b : Body) → getD (placed d ss) i empty ≡ holds b → GoodBody b
 good-placed d ss g h i b k = ⊎-elim (λ e. h i b e) (λ e. rw e at g) (placed-held d b ss i k)
 
-pub act-keeps : (N : ℕ) (o : Order) (M : Model) → GoodDeed (o .deed) → Passes N o M → Inv N M → Inv N (act N o M)
+pub act-keeps : (N : ℕ) (o : Order) (M : Model) → GoodDeed (o .deed) → Passes N o M → Invariant N M → Invariant N (act N o M)
 unfolding act
 act-keeps N o M g p v =
     let right : Mode → ℕ → ByteRight = λ m x. afterAt o m x (M .right m x) in
@@ -174,11 +152,11 @@ act-keeps N o M g p v =
 
 -- ---- an event, and a list of them
 
-pub after-keeps : (N : ℕ) (a : Answer Order) (M : Model) → GoodOrder a → Inv N M → Inv N (modelAfter N a M)
+pub after-keeps : (N : ℕ) (a : Answer Order) (M : Model) → GoodOrder a → Invariant N M → Invariant N (modelAfter N a M)
 unfolding modelAfter
 after-keeps N (refused n) M g v = v
 after-keeps N (accepted o) M g v = go (verdict N o M) refl
   where
-    go : (n : ℕ) → verdict N o M ≡ n → Inv N (ifAccepted n (act N o M) M)
+    go : (n : ℕ) → verdict N o M ≡ n → Invariant N (ifAccepted n (act N o M) M)
     go zero e = act-keeps N o M g (passes N o M e) v
     go (suc n) e = v

@@ -4,6 +4,9 @@ pub mod Bodies
 pub mod Inv
 pub mod Decode
 pub mod SoundLaws
+pub mod SoundParts
+pub mod SoundRights
+pub mod FromSound
 pub mod OwnLaws
 pub mod FromStep
 pub mod ShortFiles

@@ -22,7 +22,7 @@ use Rattle.store.proofs.StoreLaws.{length-store}
 use Rattle.reference.specs.Model.{ByteRight, none, granted, recalled, Model, segmentsIn, slotOf, tableOf, withSlot}
 use Rattle.reference.specs.Sound.{allBlank, apart, apartFromNext, hasSlot, inOrder, segmentsSound, slotSound, slotsSound, sound}
 use Rattle.reference.proofs.SlotLaws.{in-small}
-use Rattle.reference.proofs.Inv.{Housed, Inv}
+use Rattle.reference.specs.AnyTable.{Housed, Invariant}
 use Rattle.reference.proofs.Decode.{isHolding, list-of, named-is, shown, slot-bytes, slots-back, whole}
 
 -- ---- segments
@@ -65,7 +65,7 @@ unfolding segmentsSound inPlaces padded
 places-sound l h o =
     rw (le-leb (length l) 32 h, list-of l, o, drop-append-seam l (replicate (32 - length l) blank)) (blanks (32 - length l))
 
-module _ (N : ℕ) (M : Model) (v : Inv N M) where
+module _ (N : ℕ) (M : Model) (v : Invariant N M) where
   housed-slot : (r : ByteRight) → Housed (M .slots) r → (withSlot (M .slots) r ≡ None → ⊥) → hasSlot (withSlot (M .slots) r) ≡ true
   housed-slot none h n = absurd (n refl)
   housed-slot (granted b) h n =

@@ -165,10 +165,11 @@ right-shown call d =
 
 -- ---- the stand-ins
 
-pub refuses-all-falls : (n : ℕ) → (n ≡ 0 → ⊥) → Demand3 (refusesAll n) → ⊥
+pub refuses-all-falls : (number : Event → Table → List ℕ → ℕ) → ((e : Event) (t : Table) (store : List ℕ) → number e t store ≡ 0 → ⊥)
+    → Demand3 (refusesAll number) → ⊥
 unfolding answered
-refuses-all-falls n h d =
-    h (ap (λ (ns : List ℕ). getD ns 0 0) (d (wholeFile ∷ []) whole-file-fits .same-answers ∙ whole-file-accepted))
+refuses-all-falls number h d =
+    h wholeFile emptyTable (replicate 32768 0) (ap (λ (ns : List ℕ). getD ns 0 0) (d (wholeFile ∷ []) whole-file-fits .same-answers ∙ whole-file-accepted))
 
 pub changes-nothing-falls : (call : Calls) → Demand3 (changesNothing call) → ⊥
 unfolding tableLeft storeLeft emptyTable inPlaces

@@ -165,13 +165,20 @@ module _ (write : Bool) (t : Table) (store : List ℕ) (offset len : ℕ) where
               rw e (mod-lt (offset / l .summary .unit) (omega arith))
           go (no k) = let s = some in let e = stripe-of-one (omega arith) in omega arith
 
-      pub mirrors-below : (1 ≤ p .mirrors) × (p .mirrors < 2 ^ l .summary .mirrors)
-      unfolding pieceAt layoutIn
-      mirrors-below =
+      pub its-mirrors : p .mirrors ≡ mirrorsNamed write (bodyIn (slotAt store (p .slot .0))) l
+      unfolding pieceAt
+      its-mirrors =
           let v = by-parts .serving in
-          let a = accepted-limits (bodyIn (slotAt store (p .slot .0))) l h .mirrors-some in
-          let e : mirrorsNamed write (bodyIn (slotAt store (v .grant .slot))) (v .layout) ≡ p .mirrors = ap (λ (q : Piece). q .mirrors) (by-parts .piece) in
-          rw (← e, its-layout) (some-named write (bodyIn (slotAt store (v .grant .slot))) l a)
+          let i : v .grant .slot ≡ p .slot .0 = ap (λ (q : Piece). q .slot .0) (by-parts .piece) in
+          ap (λ (q : Piece). q .mirrors) (sym (by-parts .piece))
+          ∙ (ap (λ (j : ℕ). mirrorsNamed write (bodyIn (slotAt store j)) (v .layout)) i
+          ∙ ap (λ (y : Layout). mirrorsNamed write (bodyIn (slotAt store (p .slot .0))) y) its-layout)
+
+      pub mirrors-below : (1 ≤ p .mirrors) × (p .mirrors < 2 ^ l .summary .mirrors)
+      unfolding layoutIn
+      mirrors-below =
+          let body = bodyIn (slotAt store (p .slot .0)) in
+          rw its-mirrors (some-named write body l (accepted-limits body l h .mirrors-some))
 
   -- "Order: 20, 5, 17."
   pub refusals-are-listed : (n : ℕ) → routed write t store offset len ≡ refused n → (n ≡ 20) ⊎ (n ≡ 5) ⊎ (n ≡ 17)

@@ -1,29 +1,27 @@
 -- What holds of a granted byte, of what serves a request, and of the body in a slot that a granted segment names.
 use Prim.Native.Nat.{ℕ, zero, suc, _+_, _-_, _≤_, _<_}
 use mathlib.Core.Path.{_≡_, refl, sym, ap, _∙_}
-use mathlib.Core.Bool.{Bool, true, false, _&&_, false≢true, or-true}
+use mathlib.Core.Bool.{Bool, true, false, false≢true, or-true}
 use mathlib.Core.List.{List, [], _∷_}
 use native.Mathlib.Omega.{arith}
-use native.Mathlib.Decide.{decLe}
 use borrow.Author.Tests.{eq-eqb, leb-true, ltb-true, ne-eqb}
 use lib.Dec.{leb, eqb}
-use lib.ListN.{length, drop, getD}
+use lib.ListN.{length, getD}
 use Rattle.base.specs.Answer.{Answer, accepted, refused, given, pick}
 use Rattle.base.specs.Ranges.{largestSum, requestLast}
 use Rattle.base.specs.declared.iomode.Iomode.{Iomode}
 use Rattle.base.specs.declared.iomode.Iomode.the-variants.{Read, ReadWrite}
 use Rattle.base.proofs.AnswerLaws.{both, gave, never-accepted, never-refused, same-answer, same-refusal}
-use Rattle.xdr.specs.Items.{allZero}
-use Rattle.layout.specs.Layouts.{Layout, layoutBody, unitFits}
+use Rattle.layout.specs.Layouts.{Layout, unitFits}
 use Rattle.layout.proofs.LayoutLaws.{accepted-limits}
 use Rattle.segments.specs.declared.Right.{Right}
 use Rattle.segments.specs.declared.Right.the-variants.{None, Granted, Recalled}
 use Rattle.segments.specs.declared.Segment.{Segment}
-use Rattle.segments.specs.declared.Segments.{Segments}
 use Rattle.segments.specs.declared.Table.{Table}
-use Rattle.segments.specs.Segments.{Mode, READ, RW, anyNames, blank, isNamed, isOfSlot, listIn, listOf, rightAt, within}
-use Rattle.store.specs.Store.{bodyIn, kindIn, lengthIn, slotAt}
-use Rattle.reference.specs.Sound.{allBlank, apartFromNext, hasSlot, inOrder, isAccepted, noTwoAlike, segmentsSound, slotSound, slotsIn, slotsSound, sound}
+use Rattle.segments.specs.Segments.{Mode, READ, RW, anyNames, blank, isOfSlot, listIn, rightAt, within}
+use Rattle.store.specs.Store.{bodyIn, slotAt}
+use Rattle.reference.specs.Sound.{hasSlot, inOrder, isAccepted, sound}
+use Rattle.reference.proofs.SoundParts.{in-order, listed, named-in, named-sound, sounds}
 use Rattle.route.specs.Routes.{Grant, Serving, grantAt, grantOf, iomodeFor, layoutIn, noReads, readFromRw, readServed, served, servedBy, writeServed}
 
 -- ---- a granted byte
@@ -184,17 +182,10 @@ served-limits write t store offset len last v r s =
 
 -- ---- the body in a slot that a granted segment names
 
-fit-first : (s : Segment) (l : List Segment) → inOrder (s ∷ l) ≡ true → (hasSlot (s .right) ≡ true) × (inOrder l ≡ true)
-unfolding inOrder
-fit-first s l o =
-    let u = both (leb (s .first) (s .last) && hasSlot (s .right) && apartFromNext s l) (inOrder l) o in
-    let v = both (leb (s .first) (s .last) && hasSlot (s .right)) (apartFromNext s l) (u .0) in
-    (both (leb (s .first) (s .last)) (hasSlot (s .right)) (v .0) .1, u .1)
-
 slot-at : (l : List Segment) (k : ℕ) → inOrder l ≡ true → k < length l → hasSlot (getD l k blank .right) ≡ true
 slot-at [] k o h = absurd (omega arith)
-slot-at (s ∷ l) zero o h = fit-first s l o .0
-slot-at (s ∷ l) (suc k) o h = slot-at l k (fit-first s l o .1) (omega arith)
+slot-at (s ∷ l) zero o h = in-order s l o .under
+slot-at (s ∷ l) (suc k) o h = slot-at l k (in-order s l o .rest) (omega arith)
 
 named-at : (l : List Segment) (k i : ℕ) → k < length l → getD l k blank .right ≡ Granted (record { 0 = i }) → anyNames i l ≡ true
 unfolding anyNames
@@ -202,64 +193,16 @@ named-at [] k i h e = absurd (omega arith)
 named-at (s ∷ l) zero i h e = rw (e, eq-eqb i i refl)
 named-at (s ∷ l) (suc k) i h e = rw (named-at l k i (omega arith) e) (or-true (isOfSlot i (s .right)))
 
-slots-at : (t : Table) (store : List ℕ) (k j i : ℕ) → slotsSound t store k j ≡ true → j ≤ i → i < j + k → slotSound (isNamed t i) (slotAt store i) ≡ true
-unfolding slotsSound
-slots-at t store zero j i e h d = absurd (omega arith)
-slots-at t store (suc k) j i e h d = go (decLe i j) (both (slotSound (isNamed t j) (slotAt store j)) (slotsSound t store k (suc j)) e) (slots-at t store k (suc j) i)
-  where
-    go : Dec (i ≤ j) → (slotSound (isNamed t j) (slotAt store j) ≡ true) × (slotsSound t store k (suc j) ≡ true)
-        → (slotsSound t store k (suc j) ≡ true → suc j ≤ i → i < suc j + k → slotSound (isNamed t i) (slotAt store i) ≡ true)
-        → slotSound (isNamed t i) (slotAt store i) ≡ true
-    go (yes c) u rest = let f : i ≡ j = omega arith in rw f (u .0)
-    go (no c) u rest = rest (u .1) (omega arith) (omega arith)
-
-accepted-in : (b : Bool) (slot : List ℕ) → b ≡ true → slotSound b slot ≡ true → isAccepted (layoutBody (bodyIn slot)) ≡ true
-unfolding slotSound
-accepted-in true slot h e =
-    let u = both (leb (lengthIn slot) 4090 && eqb (kindIn slot) 4 && isAccepted (layoutBody (bodyIn slot))) (allZero (drop (6 + lengthIn slot) slot)) e in
-    both (leb (lengthIn slot) 4090 && eqb (kindIn slot) 4) (isAccepted (layoutBody (bodyIn slot))) (u .0) .1
-accepted-in false slot h e = absurd (false≢true h)
-
 module _ (t : Table) (store : List ℕ) (s : sound t store ≡ true) where
-  sound-order : (m : Mode) → inOrder (listIn t m) ≡ true
-  unfolding sound segmentsSound
-  sound-order m =
-      let a = both (segmentsSound (t .read) && segmentsSound (t .rw) && slotsSound t store 8 0 && noTwoAlike (slotsIn t store)) (eqb (length store) 32768) s in
-      let b = both (segmentsSound (t .read) && segmentsSound (t .rw) && slotsSound t store 8 0) (noTwoAlike (slotsIn t store)) (a .0) in
-      let c = both (segmentsSound (t .read) && segmentsSound (t .rw)) (slotsSound t store 8 0) (b .0) in
-      let d = both (segmentsSound (t .read)) (segmentsSound (t .rw)) (c .0) in
-      go m (d .0) (d .1)
-    where
-      one : (g : Segments) → segmentsSound g ≡ true → inOrder (listOf g) ≡ true
-      one g h =
-          let u = both (leb (g .count) 32 && inOrder (listOf g)) (allBlank (drop (g .count) (g .items))) h in
-          both (leb (g .count) 32) (inOrder (listOf g)) (u .0) .1
-
-      go : (m : Mode) → segmentsSound (t .read) ≡ true → segmentsSound (t .rw) ≡ true → inOrder (listIn t m) ≡ true
-      go READ p q = one (t .read) p
-      go RW p q = one (t .rw) q
-
-  sound-slots : slotsSound t store 8 0 ≡ true
-  unfolding sound
-  sound-slots =
-      let a = both (segmentsSound (t .read) && segmentsSound (t .rw) && slotsSound t store 8 0 && noTwoAlike (slotsIn t store)) (eqb (length store) 32768) s in
-      let b = both (segmentsSound (t .read) && segmentsSound (t .rw) && slotsSound t store 8 0) (noTwoAlike (slotsIn t store)) (a .0) in
-      both (segmentsSound (t .read) && segmentsSound (t .rw)) (slotsSound t store 8 0) (b .0) .1
-
-  named-in : (m : Mode) (i : ℕ) → anyNames i (listIn t m) ≡ true → isNamed t i ≡ true
-  unfolding isNamed
-  named-in READ i e = rw e
-  named-in RW i e = rw e (or-true (anyNames i (listIn t READ)))
-
   -- the body under which a byte is granted is one that the layout body's reader accepts
   pub body-accepted : (m : Mode) (x : ℕ) (g : Grant) → grantAt (listIn t m) x ≡ accepted g → isAccepted (layoutIn store (g .slot)) ≡ true
   unfolding layoutIn
   body-accepted m x g e =
       let f = grant-found (listIn t m) x g e in
-      let n = named-in m (g .slot) (named-at (listIn t m) (f .place) (g .slot) (f .placed) (f .right)) in
-      let h : hasSlot (Granted (record { 0 = g .slot })) ≡ true = ap hasSlot (sym (f .right)) ∙ slot-at (listIn t m) (f .place) (sound-order m) (f .placed) in
-      let d : g .slot < 8 = ltb-true (g .slot) 8 h in
-      accepted-in (isNamed t (g .slot)) (slotAt store (g .slot)) n (slots-at t store 8 0 (g .slot) sound-slots (omega arith) (omega arith))
+      let w = sounds t store s in
+      let n = named-in t store w m (g .slot) (named-at (listIn t m) (f .place) (g .slot) (f .placed) (f .right)) in
+      let h : hasSlot (Granted (record { 0 = g .slot })) ≡ true = ap hasSlot (sym (f .right)) ∙ slot-at (listIn t m) (f .place) (listed t store w m .order) (f .placed) in
+      named-sound t store w (g .slot) (ltb-true (g .slot) 8 h) n .read
 
   by-slot-refused : (i : Iomode) (g : Grant) (n : ℕ) → isAccepted (layoutIn store (g .slot)) ≡ true → servedBy i store g ≡ refused n → ⊥
   unfolding servedBy given

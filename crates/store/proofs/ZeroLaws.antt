@@ -1,13 +1,15 @@
--- Laws of bytes that are all zero: two parts, one more byte, a block and what is behind it.
+-- Laws of bytes that are all zero: two parts, one more byte, a block and what is behind it, what they are.
 use Prim.Native.Nat.{ℕ, zero, suc, _+_, _<_}
-use mathlib.Core.Path.{_≡_, refl, sym, ap, _∙_}
+use mathlib.Core.Path.{_≡_, refl, sym, ap, ap₂, _∙_}
 use mathlib.Core.Bool.{Bool, true, false, _&&_}
 use mathlib.Core.List.{List, [], _∷_, _++_}
 use native.Mathlib.Numerals.{add-one}
 use native.Mathlib.Omega.{arith}
+use borrow.Author.Tests.{eqb-true}
 use lib.Dec.{eqb}
 use lib.ListN.{length, take, drop, getD, replicate, length-drop, take-append-drop}
 use lib.Seq.{drop-drop, getD-drop, take-suc}
+use Rattle.base.proofs.AnswerLaws.{both}
 use Rattle.numbers.specs.Numbers.{bytesFrom}
 use Rattle.xdr.specs.Items.{allZero}
 
@@ -46,3 +48,10 @@ zero-replicate (suc n) = zero-replicate n
 pub zero-none : allZero [] ≡ true
 unfolding allZero
 zero-none = refl
+
+pub zeros-are : (bs : List ℕ) → allZero bs ≡ true → bs ≡ replicate (length bs) 0
+unfolding allZero
+zeros-are [] h = refl
+zeros-are (b ∷ bs) h =
+    let p = both (eqb b 0) (allZero bs) h in
+    ap₂ {C = List ℕ} (λ x y. x ∷ y) (eqb-true b 0 (p .0)) (zeros-are bs (p .1))

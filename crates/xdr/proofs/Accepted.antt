@@ -1,8 +1,9 @@
 -- What holds of items that were read: the items before them, the tests that they passed, their limits and where they end.
-use Prim.Native.Nat.{ℕ, zero, suc, _+_, _≤_}
+use Prim.Native.Nat.{ℕ, zero, suc, _+_, _*_, _≤_}
 use mathlib.Core.Path.{_≡_, refl, sym, ap, _∙_}
 use mathlib.Core.Bool.{Bool, true, false}
 use mathlib.Core.List.{List}
+use native.Mathlib.Nat.{suc-mul}
 use native.Mathlib.Omega.{arith}
 use borrow.Author.Tests.{eqb-true, leb-true}
 use lib.Dec.{eqb}
@@ -140,3 +141,30 @@ many-length item (suc n) s at l p e =
     let t = ran _ _ l p (r .rest) in
     let k : length (t .item) ≡ n = many-length item n s (r .next) (t .item) (t .next) (t .first) in
     ap length (sym (same-value (t .rest))) ∙ ap suc k
+
+-- items that each take at least k bytes, or exactly k
+pub many-least : {A : Type 0} (item : List ℕ → ℕ → Res A) (k : ℕ) (s : List ℕ)
+    → ((at : ℕ) (a : A) (p : ℕ) → item s at ≡ ok a p → at + k ≤ p)
+    → (n at : ℕ) (l : List A) (p : ℕ) → manyAt item n s at ≡ ok l p → at + n * k ≤ p
+unfolding manyAt
+many-least item k s h zero at l p e = let f : at ≡ p = same-place e in omega (arith, f)
+many-least item k s h (suc n) at l p e =
+    let r = ran _ _ l p e in
+    let t = ran _ _ l p (r .rest) in
+    let f : t .next ≡ p = same-place (t .rest) in
+    let a = h at (r .item) (r .next) (r .first) in
+    let b = many-least item k s h n (r .next) (t .item) (t .next) (t .first) in
+    omega (arith, f, a, b, suc-mul n k)
+
+pub many-exact : {A : Type 0} (item : List ℕ → ℕ → Res A) (k : ℕ) (s : List ℕ)
+    → ((at : ℕ) (a : A) (p : ℕ) → item s at ≡ ok a p → p ≡ at + k)
+    → (n at : ℕ) (l : List A) (p : ℕ) → manyAt item n s at ≡ ok l p → p ≡ at + n * k
+unfolding manyAt
+many-exact item k s h zero at l p e = let f : at ≡ p = same-place e in omega (arith, f)
+many-exact item k s h (suc n) at l p e =
+    let r = ran _ _ l p e in
+    let t = ran _ _ l p (r .rest) in
+    let f : t .next ≡ p = same-place (t .rest) in
+    let a = h at (r .item) (r .next) (r .first) in
+    let b = many-exact item k s h n (r .next) (t .item) (t .next) (t .first) in
+    omega (arith, f, a, b, suc-mul n k)

@@ -1,0 +1,196 @@
+-- The numbers that each event can be answered, on whatever table and store; and that no list of events from the empty table meets 20.
+use Prim.Native.Nat.{ℕ}
+use mathlib.Core.Path.{_≡_, refl, sym, ap, _∙_}
+use mathlib.Core.Bool.{Bool, true, false, _||_, false≢true}
+use mathlib.Core.List.{List, [], _∷_}
+use borrow.Author.Tests.{eqb-true}
+use lib.Dec.{eqb}
+use lib.ListN.{replicate}
+use Rattle.base.specs.Answer.{Answer, accepted, refused, given, pick}
+use Rattle.base.specs.Iomodes.{iomodeOf}
+use Rattle.base.specs.Lists.{Each}
+use Rattle.base.specs.Ranges.{lastByte, rangeLast}
+use Rattle.base.specs.declared.iomode.Iomode.{Iomode}
+use Rattle.base.specs.declared.iomode.Iomode.the-variants.{Any}
+use Rattle.layout4.specs.Layout4s.{layout4}
+use Rattle.segments.specs.declared.Table.{Table}
+use Rattle.segments.specs.Segments.{emptyTable, listOf}
+use Rattle.lookup.specs.declared.range.Condition.the-variants.{Held, Recalled}
+use Rattle.lookup.specs.Lookup.{satisfies, tableMeets}
+use Rattle.table.specs.declared.change.Change.{Change}
+use Rattle.table.specs.declared.change.Change.the-variants as change
+use Rattle.table.specs.Edits.{tableEdited}
+use Rattle.store.specs.Store.{Body, holds, slotSet}
+use Rattle.slots.specs.declared.home.Home.{Home}
+use Rattle.slots.specs.declared.home.Home.the-variants.{Old, New, Nowhere}
+use Rattle.slots.specs.Slots.{homeOf}
+use Rattle.reference.specs.Model.{Deed, grants, returns, recalls, Event, Grant, Return, Recall, Revoke, Model, Order, act, answerTo, answers, grantOrder, meets, modelAfter, own, rangeOrder, refuse, start, stops21, stops22, stops24, stops25, tooMany, verdict}
+use Rattle.reference.specs.Sound.{slotsIn, sound}
+use Rattle.reference.specs.Claim.{CallResult, Fits, answered}
+use Rattle.reference.specs.AnyTable.{EndsBy}
+use Rattle.events.specs.Events.{afterGrant, afterRecall, byDeed, called, carried, elsewhere, grantedAt, obeyed, refusedWith, settled}
+use Rattle.agreement.proofs.Demand.{calls-meet-demand-3}
+use Rattle.agreement.proofs.WholeFile.{whole-revoke}
+use Rattle.claims.specs.Statements.{isOneOf}
+use Rattle.claims.proofs.BodyRefusals.{layout4-refusals, range-refusals}
+use Rattle.claims.proofs.Faults.{RefusalsIn, accepts, allIn, asked, chosen, in-wider, tested-answer}
+
+-- ---- an event's own bytes and numbers
+
+any-iomode-refusals : (n : ℕ) → RefusalsIn (3 ∷ []) (iomodeOf n)
+unfolding iomodeOf
+any-iomode-refusals n = chosen _ accepts (chosen _ accepts (tested-answer _ 3 accepts refl))
+
+-- what bytes and numbers of an event's own can be refused with
+abbrev ownNumbers : List ℕ
+ownNumbers = 1 ∷ 2 ∷ 3 ∷ 4 ∷ 5 ∷ 6 ∷ 8 ∷ 9 ∷ 10 ∷ 11 ∷ []
+
+range-order-refusals : (d : Deed) (offset len number : ℕ) → RefusalsIn ownNumbers (rangeOrder d offset len number)
+unfolding rangeOrder
+range-order-refusals d offset len number =
+    asked (range-refusals offset len) refl λ last.
+    asked (any-iomode-refusals number) refl λ iomode.
+    accepts
+
+own-refusals : (e : Event) → RefusalsIn ownNumbers (own e)
+unfolding own
+own-refusals (Grant bytes) = asked (layout4-refusals bytes) refl λ w. accepts
+own-refusals (Return offset len number) = range-order-refusals returns offset len number
+own-refusals (Recall offset len number) = range-order-refusals recalls offset len number
+own-refusals Revoke = accepts
+
+-- ---- answers, on whatever table and store
+
+-- a call's answer is one of a list
+record AnswersIn (ns : List ℕ) (l : CallResult) : Type 0 where
+  listed : isOneOf (l .answer) ns ≡ true
+
+either : {ns : List ℕ} (b : Bool) {l k : CallResult} → AnswersIn ns l → AnswersIn ns k → AnswersIn ns (pick b l k)
+unfolding pick
+either true h i = h
+either false h i = i
+
+module _ (t : Table) (store : List ℕ) where
+  answers-with : {ns : List ℕ} (n : ℕ) → isOneOf n ns ≡ true → AnswersIn ns (refusedWith n t store)
+  answers-with n h = record { listed = h }
+
+  change-answers : {ns : List ℕ} (c : Change) (i : Iomode) (first last : ℕ) (filled : List ℕ) → isOneOf 0 ns ≡ true → isOneOf 23 ns ≡ true
+      → AnswersIn ns (carried c i first last t store filled)
+  unfolding carried settled
+  change-answers c i first last filled h j = either (tableEdited c i first last t .fits) (record { listed = h }) (answers-with 23 j)
+
+  -- a question to the event's own bytes and numbers, and what follows it
+  asked-answers : {A : Type 0} {ns ms : List ℕ} (a : Answer A) (f : A → Answer Order) → RefusalsIn ms a → allIn ms ns ≡ true
+      → ((x : A) → AnswersIn ns (obeyed (f x) t store)) → AnswersIn ns (obeyed (given a f) t store)
+  unfolding obeyed given
+  asked-answers (accepted x) f r i h = h x
+  asked-answers {ns = ns} {ms = ms} (refused n) f r i h = answers-with n (in-wider ms ns i n (r .refusal n refl))
+
+  range-answers : {ns : List ℕ} (d : Deed) (offset len number : ℕ) → allIn (5 ∷ []) ns ≡ true → allIn (3 ∷ []) ns ≡ true
+      → ((i : Iomode) (last : ℕ) → AnswersIn ns (byDeed d (record { deed = d; iomode = i; first = offset; last = last }) t store))
+      → AnswersIn ns (obeyed (rangeOrder d offset len number) t store)
+  unfolding rangeOrder obeyed
+  range-answers d offset len number h j k =
+      asked-answers (rangeLast offset len) _ (range-refusals offset len) h λ last.
+      asked-answers (iomodeOf number) _ (any-iomode-refusals number) j λ i.
+      k i last
+
+  -- 20 first
+  judged-answers : {ns : List ℕ} (e : Event) → isOneOf 20 ns ≡ true → AnswersIn ns (obeyed (own e) t store) → AnswersIn ns (called e t store)
+  unfolding called
+  judged-answers e h k = either (sound t store) k (answers-with 20 h)
+
+  home-answers : {ns : List ℕ} (home : Home) (b : Body) (i : Iomode) (first last : ℕ) → isOneOf 0 ns ≡ true → isOneOf 23 ns ≡ true → isOneOf 24 ns ≡ true
+      → AnswersIn ns (grantedAt home b i first last t store)
+  home-answers (Old s) b i first last h j k = change-answers (change.Grant s) i first last store h j
+  home-answers (New s) b i first last h j k = change-answers (change.Grant s) i first last (slotSet store (s .0) (holds b)) h j
+  home-answers Nowhere b i first last h j k = answers-with 24 k
+
+  abbrev grantAnswers : List ℕ
+  grantAnswers = 0 ∷ 20 ∷ 1 ∷ 2 ∷ 3 ∷ 4 ∷ 5 ∷ 6 ∷ 8 ∷ 9 ∷ 10 ∷ 11 ∷ 21 ∷ 22 ∷ 24 ∷ 23 ∷ []
+
+  body-answers : (b : Body) (o : Order) → AnswersIn grantAnswers (byDeed (grants b) o t store)
+  unfolding afterGrant
+  body-answers b o =
+      let home = homeOf b (slotsIn t store) in
+      either (tableMeets (satisfies (elsewhere home)) (o .iomode) (o .first) (o .last) t) (answers-with 21 refl)
+      (either (tableMeets (satisfies Recalled) (o .iomode) (o .first) (o .last) t) (answers-with 22 refl)
+      (home-answers home b (o .iomode) (o .first) (o .last) refl refl refl))
+
+  pub grant-answers : (bytes : List ℕ) → isOneOf (called (Grant bytes) t store .answer) grantAnswers ≡ true
+  unfolding own obeyed grantOrder
+  grant-answers bytes =
+      judged-answers (Grant bytes) refl
+      (asked-answers (layout4 bytes) _ (layout4-refusals bytes) refl λ w. body-answers _ (grantOrder bytes w))
+      .listed
+
+  pub return-answers : (offset len number : ℕ) → isOneOf (called (Return offset len number) t store .answer) (0 ∷ 20 ∷ 5 ∷ 3 ∷ 23 ∷ []) ≡ true
+  unfolding own
+  return-answers offset len number =
+      judged-answers {ns = 0 ∷ 20 ∷ 5 ∷ 3 ∷ 23 ∷ []} (Return offset len number) refl
+      (range-answers returns offset len number refl refl λ i last. change-answers change.Clear i offset last store refl refl)
+      .listed
+
+  pub recall-answers : (offset len number : ℕ) → isOneOf (called (Recall offset len number) t store .answer) (0 ∷ 20 ∷ 5 ∷ 3 ∷ 25 ∷ 23 ∷ []) ≡ true
+  unfolding own afterRecall
+  recall-answers offset len number =
+      judged-answers {ns = 0 ∷ 20 ∷ 5 ∷ 3 ∷ 25 ∷ 23 ∷ []} (Recall offset len number) refl
+      (range-answers recalls offset len number refl refl λ i last.
+      either (tableMeets (satisfies Held) i offset last t) (change-answers change.Recall i offset last store refl refl) (answers-with 25 refl))
+      .listed
+
+  revoke-change : AnswersIn (0 ∷ 20 ∷ 23 ∷ []) (called Revoke t store)
+  unfolding own obeyed
+  revoke-change = judged-answers Revoke refl (change-answers change.Clear Any 0 lastByte store refl refl)
+
+  pub revoke-answers : Each (EndsBy lastByte) (listOf (t .read)) → Each (EndsBy lastByte) (listOf (t .rw))
+      → isOneOf (called Revoke t store .answer) (0 ∷ 20 ∷ []) ≡ true
+  revoke-answers read rw-list = go (called Revoke t store .answer) (revoke-change .listed) (whole-revoke t store read rw-list)
+    where
+      last : (n : ℕ) (a b c : Bool) → eqb n 23 ≡ c → (n ≡ 23 → ⊥) → (a || (b || (c || false))) ≡ true → (a || (b || false)) ≡ true
+      last n true b c e k f = refl
+      last n false true c e k f = refl
+      last n false false true e k f = absurd (k (eqb-true n 23 e))
+      last n false false false e k f = f
+
+      go : (n : ℕ) → isOneOf n (0 ∷ 20 ∷ 23 ∷ []) ≡ true → (n ≡ 23 → ⊥) → isOneOf n (0 ∷ 20 ∷ []) ≡ true
+      go n h k = last n (eqb n 0) (eqb n 20) (eqb n 23) refl k h
+
+-- ---- lists of events from the empty table
+
+-- a number is one of a list
+record Listed (ns : List ℕ) (n : ℕ) : Type 0 where
+  listed : isOneOf n ns ≡ true
+
+refuse-listed : {ns : List ℕ} (n : ℕ) (b : Bool) {next : ℕ} → isOneOf n ns ≡ true → Listed ns next → Listed ns (refuse n b next)
+refuse-listed n true h k = record { listed = h }
+refuse-listed n false h k = k
+
+not-listed : (ns : List ℕ) (n k : ℕ) → isOneOf n ns ≡ true → isOneOf k ns ≡ false → n ≡ k → ⊥
+not-listed ns n k h i e = false≢true (sym i ∙ (ap (λ (j : ℕ). isOneOf j ns) (sym e) ∙ h))
+
+module _ (N : ℕ) where
+  verdict-listed : (o : Order) (M : Model) → Listed (0 ∷ 21 ∷ 22 ∷ 25 ∷ 24 ∷ 23 ∷ []) (verdict N o M)
+  unfolding verdict
+  verdict-listed o M =
+      refuse-listed 21 (meets N o (stops21 (o .deed)) M) refl
+      (refuse-listed 22 (meets N o (stops22 (o .deed)) M) refl
+      (refuse-listed 25 (stops25 N (o .deed) o M) refl
+      (refuse-listed 24 (stops24 (o .deed) (M .slots)) refl
+      (refuse-listed 23 (tooMany N (act N o M)) refl (record { listed = refl })))))
+
+  answer-not-20 : (e : Event) (M : Model) → answerTo N (own e) M ≡ 20 → ⊥
+  unfolding answerTo
+  answer-not-20 e M = go (own e) refl
+    where
+      go : (a : Answer Order) → own e ≡ a → answerTo N a M ≡ 20 → ⊥
+      go (accepted o) p = not-listed (0 ∷ 21 ∷ 22 ∷ 25 ∷ 24 ∷ 23 ∷ []) (verdict N o M) 20 (verdict-listed o M .listed) refl
+      go (refused n) p = not-listed ownNumbers n 20 (own-refusals e .refusal n p) refl
+
+  answers-not-20 : (es : List Event) (M : Model) → Each (λ n. n ≡ 20 → ⊥) (answers N es M)
+  unfolding answers
+  answers-not-20 [] M = tt
+  answers-not-20 (e ∷ es) M = (answer-not-20 e M, answers-not-20 es (modelAfter N (own e) M))
+
+pub never-20 : (es : List Event) → Each Fits es → Each (λ n. n ≡ 20 → ⊥) (answered called es emptyTable (replicate 32768 0))
+never-20 es f = rw (calls-meet-demand-3 es f .same-answers) (answers-not-20 lastByte es start)

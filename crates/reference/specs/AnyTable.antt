@@ -1,0 +1,75 @@
+-- A table and a store of whatever origin: what their types say of them, the reference model that they show, and that model's step.
+use Prim.Native.Nat.{ℕ, _≤_}
+use mathlib.Core.Path.{_≡_}
+use mathlib.Core.Bool.{true}
+use mathlib.Core.List.{List}
+use lib.ListN.{length, getD}
+use Rattle.base.specs.Lists.{Each}
+use Rattle.base.specs.Ranges.{lastByte}
+use Rattle.numbers.specs.Numbers.{AllBytes}
+use Rattle.layout.specs.Layouts.{layoutBody}
+use Rattle.segments.specs.declared.Segment.{Segment}
+use Rattle.segments.specs.declared.Table.{Table}
+use Rattle.segments.specs.Segments.{Mode, listIn, segmentsFor}
+use Rattle.store.specs.Store.{Body, Slot, empty, holds, storeOf}
+use Rattle.reference.specs.Model.{ByteRight, none, granted, recalled, Event, Model, answerTo, anyByte, inSlots, isUnder, modelAfter, own, segmentsIn, tableOf}
+use Rattle.reference.specs.Sound.{isAccepted, noTwoAlike, slotsIn}
+use Rattle.reference.specs.Claim.{CallResult, rightIn}
+
+-- ---- what the types say
+
+-- a segment that ends at byte N or before
+abbrev pub EndsBy : ℕ → Segment → Type 0
+EndsBy N s = s .last ≤ N
+
+-- 32 places an iomode, last bytes that are numbers up to N (2^64 - 1 in a call), and a store of bytes
+pub record Typed (N : ℕ) (t : Table) (store : List ℕ) : Type 0 where
+  pub places : (m : Mode) → length (segmentsFor t m .items) ≡ 32
+  pub ends : (m : Mode) → Each (EndsBy N) (listIn t m)
+  pub bytes : AllBytes store
+
+-- ---- the model that they show
+
+-- its rights are those of the table's segments, with their bodies; its slots those of the store
+unfoldable pub modelOf : Table → List ℕ → Model
+modelOf t store = record { right = rightIn t store; slots = slotsIn t store }
+
+-- ---- models that tables and stores show
+
+-- a body that a grant may bring
+pub record GoodBody (b : Body) : Type 0 where
+  pub read : isAccepted (layoutBody b) ≡ true
+  pub small : length b ≤ 4090
+  pub bytes : AllBytes b
+
+-- the body of a right is in a slot
+abbrev pub Housed : List Slot → ByteRight → Type 0
+Housed ss none = Unit {0}
+Housed ss (granted b) = inSlots b ss ≡ true
+Housed ss (recalled b) = inSlots b ss ≡ true
+
+-- eight slots, no two alike, each with a good body that a right of some byte names; each right's body in a slot; at most 32 segments an iomode
+pub record Invariant (N : ℕ) (M : Model) : Type 0 where
+  pub eight : length (M .slots) ≡ 8
+  pub apart : noTwoAlike (M .slots) ≡ true
+  pub good : (i : ℕ) (b : Body) → getD (M .slots) i empty ≡ holds b → GoodBody b
+  pub housed : (m : Mode) (x : ℕ) → x ≤ N → Housed (M .slots) (M .right m x)
+  pub few : (m : Mode) → length (segmentsIn N M m) ≤ 32
+  pub named : (i : ℕ) (b : Body) → getD (M .slots) i empty ≡ holds b → anyByte N (λ m x. isUnder b (M .right m x)) ≡ true
+
+-- table and store are those of such a model
+pub record OfModel (t : Table) (store : List ℕ) : Type 0 where
+  pub model : Model
+  pub kept : Invariant lastByte model
+  pub same-table : tableOf lastByte model ≡ t
+  pub same-store : storeOf (model .slots) ≡ store
+
+-- ---- its step
+
+-- the model's answer to an event, and the table and the store of the model after it
+unfoldable pub leftBy : Event → Model → CallResult
+leftBy e M = record {
+  answer = answerTo lastByte (own e) M;
+  table = tableOf lastByte (modelAfter lastByte (own e) M);
+  store = storeOf (modelAfter lastByte (own e) M .slots);
+}

@@ -1,0 +1,125 @@
+-- A byte is served exactly where its rights, with their bodies, say so, and under the body of that right.
+use Prim.Native.Nat.{ℕ}
+use mathlib.Core.Path.{_≡_, refl, sym, ap, _∙_}
+use mathlib.Core.Bool.{Bool, true, false, false≢true}
+use mathlib.Core.List.{List, [], _∷_}
+use Rattle.base.specs.Answer.{Answer, accepted, refused, given, pick}
+use Rattle.base.specs.Ranges.{requestLast}
+use Rattle.base.specs.declared.iomode.Iomode.{Iomode}
+use Rattle.base.specs.declared.iomode.Iomode.the-variants.{Read, ReadWrite}
+use Rattle.layout.specs.Layouts.{Layout}
+use Rattle.segments.specs.declared.Right.{Right}
+use Rattle.segments.specs.declared.Right.the-variants.{None, Granted, Recalled}
+use Rattle.segments.specs.declared.Segment.{Segment}
+use Rattle.segments.specs.declared.Table.{Table}
+use Rattle.segments.specs.Segments.{Mode, READ, RW, listIn, rightAt, within}
+use Rattle.store.specs.Store.{Slot, bodyIn, slotAt}
+use Rattle.reference.specs.Model.{granted, recalled}
+use Rattle.reference.specs.Sound.{isAccepted, slotsIn, sound}
+use Rattle.reference.specs.Claim.{rightIn, underSlot, withBody}
+use Rattle.reference.proofs.SoundParts.{holding, sounds}
+use Rattle.reference.proofs.SoundRights.{Under, under-at}
+use Rattle.route.specs.Routes.{Grant, Serving, grantAt, grantOf, layoutIn, noReads, pieceAt, readFromRw, readServed, routed, served, servedBy, writeServed}
+use Rattle.route.specs.Rights.{ServedUnder, byGrant, orElse, readsByRw, servedByRights, servedOf}
+use Rattle.route.proofs.ServedLaws.{body-accepted}
+
+-- ---- a grant at a byte
+
+-- the grant that a list has at a byte is that of the right that it shows there
+grant-shown : (l : List Segment) (x : ℕ) → (last : ℕ) × (grantAt l x ≡ grantOf (rightAt l x) last)
+unfolding grantAt rightAt pick
+grant-shown [] x = (0, refl)
+grant-shown (s ∷ l) x = go (within (s .first) (s .last) x) (grant-shown l x)
+  where
+    go : (b : Bool) → (last : ℕ) × (grantAt l x ≡ grantOf (rightAt l x) last)
+        → (last : ℕ) × (pick b (grantOf (s .right) (s .last)) (grantAt l x) ≡ grantOf (pick b (s .right) (rightAt l x)) last)
+    go true rest = (s .last, refl)
+    go false rest = rest
+
+module _ (t : Table) (store : List ℕ) (s : sound t store ≡ true) where
+  -- a byte's grant and its right in an iomode: granted, under the body in the grant's slot, or no grant
+  data Seen (m : Mode) (x : ℕ) : Type 0 where
+    by-grant : (g : Grant) → grantAt (listIn t m) x ≡ accepted g → rightIn t store m x ≡ granted (bodyIn (slotAt store (g .slot))) → Seen m x
+    without : grantAt (listIn t m) x ≡ refused 17 → ((i : Iomode) → byGrant i (rightIn t store m x) ≡ refused 17) → Seen m x
+
+  seen : (m : Mode) (x : ℕ) → Seen m x
+  unfolding rightIn
+  seen m x = go (rightAt (listIn t m) x) refl (grant-shown (listIn t m) x) (under-at t store (sounds t store s) m x)
+    where
+      go : (r : Right) → rightAt (listIn t m) x ≡ r → (last : ℕ) × (grantAt (listIn t m) x ≡ grantOf (rightAt (listIn t m) x) last)
+          → Under (slotsIn t store) (rightAt (listIn t m) x) → Seen m x
+      go None e g u = without (g .1 ∙ ap (λ (r : Right). grantOf r (g .0)) e) (λ i. ap (λ (r : Right). byGrant i (withBody (slotsIn t store) r)) e)
+      go (Granted i) e g u =
+          let w : Under (slotsIn t store) (Granted i) = rw e at u in
+          let h = holding t store (sounds t store s) (i .0) (w .0) (w .1) in
+          by-grant (record { slot = i .0; last = g .0 }) (g .1 ∙ ap (λ (r : Right). grantOf r (g .0)) e)
+          (ap (withBody (slotsIn t store)) e ∙ (ap (underSlot granted) (w .1) ∙ ap granted (sym (h .body))))
+      go (Recalled i) e g u =
+          let w : Under (slotsIn t store) (Recalled i) = rw e at u in
+          without (g .1 ∙ ap (λ (r : Right). grantOf r (g .0)) e)
+          (λ k. ap (λ (r : Right). byGrant k (withBody (slotsIn t store) r)) e ∙ ap (λ (c : Slot). byGrant k (underSlot recalled c)) (w .1))
+
+  -- ---- what serves
+
+  abbrev under : Serving → Answer ServedUnder
+  under v = accepted (record { iomode = v .iomode; body = bodyIn (slotAt store (v .grant .slot)) })
+
+  -- the layout under which a byte is granted
+  layout-read : (m : Mode) (x : ℕ) (g : Grant) → grantAt (listIn t m) x ≡ accepted g → (l : Layout) × (layoutIn store (g .slot) ≡ accepted l)
+  layout-read m x g e = go (layoutIn store (g .slot)) refl (body-accepted t store s m x g e)
+    where
+      go : (a : Answer Layout) → layoutIn store (g .slot) ≡ a → isAccepted a ≡ true → (l : Layout) × (layoutIn store (g .slot) ≡ accepted l)
+      go (accepted l) e h = (l, e)
+      go (refused n) e h = absurd (false≢true h)
+
+  write-by-rights : (x : ℕ) → given (writeServed t store x) under ≡ byGrant ReadWrite (rightIn t store RW x)
+  unfolding writeServed servedBy given
+  write-by-rights x = go (seen RW x)
+    where
+      go : Seen RW x → given (writeServed t store x) under ≡ byGrant ReadWrite (rightIn t store RW x)
+      go (by-grant g e r) = let l = layout-read RW x g e in rw (e, l .1, r)
+      go (without e r) = rw (e, r ReadWrite)
+
+  rw-by-rights : (x : ℕ) → given (readFromRw t store x) under ≡ readsByRw (rightIn t store RW x)
+  unfolding readFromRw readsByRw writeServed servedBy layoutIn given pick
+  rw-by-rights x = go (seen RW x)
+    where
+      flag : (b : Bool) (v : Serving) → given (pick b (refused 17) (accepted v)) under ≡ pick b (refused 17) (under v)
+      flag true v = refl
+      flag false v = refl
+
+      read : (g : Grant) (a : Answer Layout)
+          → given (given (given a λ l. accepted (record { iomode = ReadWrite; grant = g; layout = l })) λ v. pick (noReads (v .layout .summary .flags)) (refused 17) (accepted v)) under
+          ≡ given a (λ l. pick (noReads (l .summary .flags)) (refused 17) (accepted (record { iomode = ReadWrite; body = bodyIn (slotAt store (g .slot)) })))
+      read g (accepted l) = flag (noReads (l .summary .flags)) (record { iomode = ReadWrite; grant = g; layout = l })
+      read g (refused n) = refl
+
+      go : Seen RW x → given (readFromRw t store x) under ≡ readsByRw (rightIn t store RW x)
+      go (by-grant g e r) = rw (e, r) (read g (layoutIn store (g .slot)))
+      go (without e r) = rw (e, r ReadWrite)
+
+  served-by-rights : (write : Bool) (x : ℕ) → given (served write t store x) under ≡ servedByRights write (rightIn t store READ x) (rightIn t store RW x)
+  unfolding servedBy given
+  served-by-rights true x = write-by-rights x
+  served-by-rights false x = go (seen READ x)
+    where
+      go : Seen READ x → given (readServed (grantAt (listIn t READ) x) t store x) under ≡ orElse (byGrant Read (rightIn t store READ x)) (readsByRw (rightIn t store RW x))
+      go (by-grant g e r) = let l = layout-read READ x g e in rw (e, l .1, r)
+      go (without e r) = rw (e, r Read) (rw-by-rights x)
+
+  -- ---- the answer
+
+  -- where a request that is in order goes, by the rights of its first byte
+  pub routed-by-rights : (write : Bool) (offset len : ℕ) → given (routed write t store offset len) (λ p. accepted (servedOf store p))
+      ≡ given (requestLast offset len) (λ last. servedByRights write (rightIn t store READ offset) (rightIn t store RW offset))
+  unfolding routed pick given pieceAt
+  routed-by-rights write offset len = rw s (go (requestLast offset len))
+    where
+      piece : (a : Answer Serving) → given (given a λ v. accepted (pieceAt write store offset len v)) (λ p. accepted (servedOf store p)) ≡ given a under
+      piece (accepted v) = refl
+      piece (refused n) = refl
+
+      go : (a : Answer ℕ) → given (given a λ last. given (served write t store offset) λ v. accepted (pieceAt write store offset len v)) (λ p. accepted (servedOf store p))
+          ≡ given a (λ last. servedByRights write (rightIn t store READ offset) (rightIn t store RW offset))
+      go (accepted last) = piece (served write t store offset) ∙ served-by-rights write offset
+      go (refused n) = refl
