@@ -13,10 +13,10 @@ pub enum Last {
 pub const LAST_BYTE: u64 = 18446744073709551615;
 
 // What offset and length may come to together.
-const LARGEST_SUM: u64 = 18446744073709551615;
+pub const LARGEST_SUM: u64 = 18446744073709551615;
 
-// The length that means "through the last byte".
-const TO_THE_END: u64 = 18446744073709551615;
+// The length that means through the last byte, from any offset.
+pub const TO_THE_END: u64 = 18446744073709551615;
 
 pub fn range_last(offset: u64, len: u64) -> Last
     ensures { λ r. ⌜ answerOfLast r ≡ rangeLast offset len ⌝ }

@@ -46,7 +46,7 @@ fn read_number(text: &[u8]) -> ReadNumber {
         }
         let tens = v * 10;
         let digit = (b - 48) as u64;
-        if base::LAST_BYTE - tens < digit {
+        if u64::MAX - tens < digit {
             return ReadNumber::None;
         }
         v = tens + digit;

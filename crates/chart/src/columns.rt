@@ -1,5 +1,5 @@
 // The columns of a chart: the pieces that the core answers from an offset on, one after the other.
-use base::LAST_BYTE;
+use base::LARGEST_SUM;
 use base::StripeNumber;
 use drawing::Column;
 use drawing::Columns;
@@ -13,17 +13,18 @@ const NO_COLUMN: Column = Column {
     mirrors: 0,
 };
 
-// How many bytes from an offset without a right on have none: up to the layout's first byte, or to the file's end.
+// How many bytes from an offset without a right on have none: up to the layout's first byte, or as far as any
+// request reaches.
 fn gap(first: u64, offset: u64) -> u64 {
     if offset < first {
         return first - offset;
     }
-    LAST_BYTE - offset
+    LARGEST_SUM - offset
 }
 
 // The core is asked for the longest request that starts here.
 fn column_at(t: Table, store: &[u8], write: bool, first: u64, offset: u64) -> Column {
-    let l = route::locate(t, store, write, offset, LAST_BYTE - offset);
+    let l = route::locate(t, store, write, offset, LARGEST_SUM - offset);
     match l {
         Located::At(p) => {
             let stripe = p.stripe;
@@ -43,10 +44,10 @@ fn column_at(t: Table, store: &[u8], write: bool, first: u64, offset: u64) -> Co
     }
 }
 
-// The offset behind a column. No I/O reaches the last byte of all, so that a chart ends before it.
+// The offset behind a column. A chart ends where the longest request does, before the last byte of all.
 fn behind(offset: u64, length: u64) -> u64 {
-    if LAST_BYTE - offset < length {
-        return LAST_BYTE;
+    if LARGEST_SUM - offset < length {
+        return LARGEST_SUM;
     }
     offset + length
 }
@@ -67,7 +68,7 @@ pub(crate) fn find_columns(
         if units <= i {
             return Columns { items, count: i };
         }
-        if offset == LAST_BYTE {
+        if offset == LARGEST_SUM {
             return Columns { items, count: i };
         }
         let c = column_at(t, store, write, first, offset);
