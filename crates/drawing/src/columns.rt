@@ -1,5 +1,6 @@
 // The columns of a chart: one piece after the other.
 use crate::cell::digits;
+use base::MirrorNumber;
 use base::StripeNumber;
 
 // The bytes from an offset on, and where they go. Without mirrors there is no right.
@@ -16,15 +17,15 @@ pub struct Columns {
 }
 
 // Whether the bytes of a column go to the server of a mirror and a stripe.
-pub(crate) fn goes_to(c: Column, m: u32, k: u32) -> bool {
-    if 8 <= m {
+pub(crate) fn goes_to(c: Column, m: MirrorNumber, k: StripeNumber) -> bool {
+    if 8 <= m.0 {
         return false;
     }
-    if c.mirrors >> m & 1 == 0 {
+    if c.mirrors >> m.0 & 1 == 0 {
         return false;
     }
     let stripe = c.stripe;
-    stripe.0 == k
+    stripe.0 == k.0
 }
 
 pub(crate) fn larger(a: u64, b: u64) -> u64 {

@@ -9,6 +9,8 @@ use crate::facts::say_range;
 use crate::facts::say_summary;
 use crate::subject::Subject;
 use crate::subject::device_at;
+use base::MirrorNumber;
+use base::StripeNumber;
 use layout::Summary;
 use print::say;
 use print::say_device_id;
@@ -38,12 +40,12 @@ pub enum Layer {
     // Lines from the first place to the second.
     Lines(u64, u64),
     // The boxes of a mirror's and a stripe's server.
-    Boxes(u32, u32, u64),
+    Boxes(MirrorNumber, StripeNumber, u64),
 }
 
 // A place further on. No picture reaches the largest number.
 fn beyond(place: u64, by: u64) -> u64 {
-    if base::LAST_BYTE - place < by {
+    if u64::MAX - place < by {
         return place;
     }
     place + by
@@ -66,7 +68,7 @@ fn say_mark(layer: Layer, c: Column, x: u64) {
                     y,
                     c.offset,
                     c.length,
-                    m as u64,
+                    m.0 as u64,
                     stripe.0 as u64,
                 );
             }
@@ -124,8 +126,8 @@ fn lower_end(summary: Summary, top: u64) -> u64 {
     y
 }
 
-fn say_name(bytes: &[u8], s: Subject, m: u32, k: u32, y: u64) {
-    let values = [beyond(y, 15), m as u64, k as u64, beyond(y, 31)];
+fn say_name(bytes: &[u8], s: Subject, m: MirrorNumber, k: StripeNumber, y: u64) {
+    let values = [beyond(y, 15), m.0 as u64, k.0 as u64, beyond(y, 31)];
     say_fields(
         b"<text x=\"28\" y=\"#\">mirror #, stripe #</text>\n<text class=\"mono\" x=\"28\" y=\"#\">device ",
         &values,
@@ -134,7 +136,7 @@ fn say_name(bytes: &[u8], s: Subject, m: u32, k: u32, y: u64) {
     say(b"</text>\n");
 }
 
-fn say_server(bytes: &[u8], s: Subject, m: u32, k: u32, y: u64, width: u64) {
+fn say_server(bytes: &[u8], s: Subject, m: MirrorNumber, k: StripeNumber, y: u64, width: u64) {
     say_name(bytes, s, m, k, y);
     say_lane(LEFT, y, width);
     let columns = s.columns;
@@ -142,12 +144,12 @@ fn say_server(bytes: &[u8], s: Subject, m: u32, k: u32, y: u64, width: u64) {
 }
 
 // The lanes of a mirror, from a place downwards; the place behind them.
-fn say_mirror(bytes: &[u8], s: Subject, m: u32, from: u64, width: u64) -> u64 {
+fn say_mirror(bytes: &[u8], s: Subject, m: MirrorNumber, from: u64, width: u64) -> u64 {
     let summary = s.summary;
     let mut y = from;
     let mut k: u32 = 0;
     while k < summary.servers {
-        say_server(bytes, s, m, k, y, width);
+        say_server(bytes, s, m, StripeNumber(k), y, width);
         y = beyond(y, LANE);
         k += 1;
     }
@@ -159,7 +161,7 @@ fn say_mirrors(bytes: &[u8], s: Subject, top: u64, width: u64) {
     let mut y = top;
     let mut m: u32 = 0;
     while m < summary.mirrors {
-        y = say_mirror(bytes, s, m, y, width);
+        y = say_mirror(bytes, s, MirrorNumber(m), y, width);
         m += 1;
     }
 }

@@ -1,6 +1,8 @@
 // What a chart shows.
 ghost use Prim.Native.Nat.{_<_};
 use crate::columns::Columns;
+use base::MirrorNumber;
+use base::StripeNumber;
 use layout::Summary;
 use layout4::Layout4;
 
@@ -18,11 +20,11 @@ fn wide(x: u16) -> usize
 }
 
 // Where in the file the device id of a mirror's server stands.
-pub(crate) fn device_at(s: Subject, m: u32, k: u32) -> usize {
+pub(crate) fn device_at(s: Subject, m: MirrorNumber, k: StripeNumber) -> usize {
     let layout = s.layout;
     let body = layout.body;
     let start = body.start;
-    let i = m as usize * 16 + k as usize;
+    let i = m.0 as usize * 16 + k.0 as usize;
     if 128 <= i {
         return start;
     }

@@ -10,6 +10,8 @@ use crate::facts::say_range;
 use crate::facts::say_summary;
 use crate::subject::Subject;
 use crate::subject::device_at;
+use base::MirrorNumber;
+use base::StripeNumber;
 use print::say;
 use print::say_device_id;
 
@@ -18,7 +20,7 @@ pub enum Row {
     Offsets,
     Lengths,
     // The server of a mirror and a stripe.
-    Server(u32, u32),
+    Server(MirrorNumber, StripeNumber),
 }
 
 fn say_length(c: Column, width: u64) {
@@ -29,7 +31,7 @@ fn say_length(c: Column, width: u64) {
     say_right(c.length, width);
 }
 
-fn say_box(c: Column, m: u32, k: u32, width: u64) {
+fn say_box(c: Column, m: MirrorNumber, k: StripeNumber, width: u64) {
     if goes_to(c, m, k) {
         say_times(b"#", width);
         return;
@@ -59,9 +61,9 @@ fn say_cells(row: Row, columns: Columns, width: u64) {
     say(b" |\n");
 }
 
-fn say_server(bytes: &[u8], s: Subject, m: u32, k: u32, width: u64) {
-    say_right(m as u64, 6);
-    say_right(k as u64, 8);
+fn say_server(bytes: &[u8], s: Subject, m: MirrorNumber, k: StripeNumber, width: u64) {
+    say_right(m.0 as u64, 6);
+    say_right(k.0 as u64, 8);
     say(b"  ");
     say_device_id(bytes, device_at(s, m, k));
     say(b"         ");
@@ -69,11 +71,11 @@ fn say_server(bytes: &[u8], s: Subject, m: u32, k: u32, width: u64) {
     say_cells(Row::Server(m, k), columns, width);
 }
 
-fn say_mirror(bytes: &[u8], s: Subject, m: u32, width: u64) {
+fn say_mirror(bytes: &[u8], s: Subject, m: MirrorNumber, width: u64) {
     let summary = s.summary;
     let mut k: u32 = 0;
     while k < summary.servers {
-        say_server(bytes, s, m, k, width);
+        say_server(bytes, s, m, StripeNumber(k), width);
         k += 1;
     }
 }
@@ -82,7 +84,7 @@ fn say_mirrors(bytes: &[u8], s: Subject, width: u64) {
     let summary = s.summary;
     let mut m: u32 = 0;
     while m < summary.mirrors {
-        say_mirror(bytes, s, m, width);
+        say_mirror(bytes, s, MirrorNumber(m), width);
         m += 1;
     }
 }
