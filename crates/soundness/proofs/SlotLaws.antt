@@ -7,8 +7,10 @@ use native.Mathlib.Numerals.{add-one}
 use native.Mathlib.Omega.{arith}
 use borrow.Author.Tests.{eqb-false, eqb-true, le-ltb, lt-ltb, ltb-false, ltb-true}
 use lib.Dec.{eqb, ltb}
-use Rattle.base.specs.Answer.{refused, pick}
-use Rattle.layout.specs.Layouts.{layoutBody}
+use lib.ListN.{replicate}
+use Rattle.base.specs.Answer.{Answer, refused, pick}
+use Rattle.layout.specs.Answers.{startsIn}
+use Rattle.layout.specs.Layouts.{Layout, layoutBody}
 use Rattle.numbers.specs.Numbers.{sameBytes}
 use Rattle.segments.specs.declared.Table.{Table}
 use Rattle.segments.specs.Segments.{isNamed}
@@ -77,6 +79,11 @@ module _ (t : Table) (store : List ℕ) (n i : ℕ) (h : i < n) where
 
   pub slot-fails : slotSound (isNamed t i) (slotAt store i) ≡ false → slotsSound t store (n - i) i ≡ false
   slot-fails e = rw (slots-next t store n i h, e)
+
+-- where nothing was read there are no starts
+pub none-started : (a : Answer Layout) → refused 20 ≡ a → replicate 128 0 ≡ startsIn a
+unfolding startsIn
+none-started a e = ap startsIn e
 
 module _ (t : Table) (store : List ℕ) (w : ℕ) where
   pub read-none : refused 20 ≡ layoutNamed t store w 0

@@ -11,11 +11,11 @@ ghost use Rattle.reference.specs.Model.{inSlots};
 ghost use Rattle.reference.specs.Sound.{noTwoAlike, slotsFrom, slotsIn};
 
 // Whether a slot from this one on holds the body.
-fn is_held_from(named: [bool; 8], store: &[u8], from: u32, body: &[u8]) -> bool
+fn is_held_from(named: [bool; 8], store: &[u8], from: SlotNumber, body: &[u8]) -> bool
     ensures { λ r. ⌜ ((t : Table) → named ≡ namedSlots t
-        → r ≡ inSlots (now (body .entry)) (slotsFrom t (now (store .entry)) (8 - from) from)) ⌝ }
+        → r ≡ inSlots (now (body .entry)) (slotsFrom t (now (store .entry)) (8 - from .0) (from .0))) ⌝ }
 {
-    let mut j = from;
+    let mut j = from.0;
     while j < 8 {
         let k = j as usize;
         if store::holds_body(named[k], store, SlotNumber(j), body) {
@@ -27,18 +27,21 @@ fn is_held_from(named: [bool; 8], store: &[u8], from: u32, body: &[u8]) -> bool
 }
 
 // Whether a later slot holds the body of this one.
-fn is_held_again(named: [bool; 8], store: &[u8], i: u32) -> bool
-    requires { ⌜ i < 8 ⌝ }
+fn is_held_again(named: [bool; 8], store: &[u8], i: SlotNumber) -> bool
+    requires { ⌜ i .0 < 8 ⌝ }
     ensures { λ r. ⌜ ((t : Table) → named ≡ namedSlots t
-        → r ≡ (isNamed t i && inSlots (bodyIn (slotAt (now (store .entry)) i)) (slotsFrom t (now (store .entry)) (8 - (i + 1)) (i + 1)))) ⌝ }
+        → r ≡ (isNamed t (i .0)
+        && inSlots (bodyIn (slotAt (now (store .entry)) (i .0)))
+        (slotsFrom t (now (store .entry)) (8 - (i .0 + 1)) (i .0 + 1)))) ⌝ }
 {
-    let k = i as usize;
+    let k = i.0 as usize;
     if !named[k] {
         return false;
     }
-    let slot = store::slot_bytes(store, SlotNumber(i));
+    let slot = store::slot_bytes(store, i);
     let body = store::slot_body(slot);
-    is_held_from(named, store, i + 1, body)
+    let next = i.0 + 1;
+    is_held_from(named, store, SlotNumber(next), body)
 }
 
 pub(crate) fn no_two_alike(named: [bool; 8], store: &[u8]) -> bool
@@ -46,7 +49,7 @@ pub(crate) fn no_two_alike(named: [bool; 8], store: &[u8]) -> bool
 {
     let mut i: u32 = 0;
     while i < 8 {
-        if is_held_again(named, store, i) {
+        if is_held_again(named, store, SlotNumber(i)) {
             return false;
         }
         i += 1;

@@ -2,7 +2,7 @@
 use base::SlotNumber;
 use segments::Table;
 ghost use mathlib.Core.Path.{_≡_};
-ghost use Rattle.layout.specs.Answers.{answerOfLayout};
+ghost use Rattle.layout.specs.Answers.{answerOfLayout, startsIn};
 ghost use Rattle.reference.specs.Sound.{sound};
 ghost use Rattle.soundness.specs.Judgements.{layoutJudged};
 
@@ -15,7 +15,8 @@ pub use slots::Judged;
 // The store's length is tested first, since the slots are looked at by their places.
 pub fn judge(t: Table, store: &[u8], wanted: SlotNumber) -> Judged
     ensures { λ r. ⌜ (r .sound ≡ sound t (now (store .entry)))
-        × (answerOfLayout (r .read .answer) (r .read .starts) ≡ layoutJudged t (now (store .entry)) (wanted .0)) ⌝ }
+        × (answerOfLayout (r .read .answer) (r .read .starts) ≡ layoutJudged t (now (store .entry)) (wanted .0))
+        × (r .read .starts ≡ startsIn (layoutJudged t (now (store .entry)) (wanted .0))) ⌝ }
 {
     if store.len() != 32768 {
         return slots::unsound();
@@ -24,7 +25,7 @@ pub fn judge(t: Table, store: &[u8], wanted: SlotNumber) -> Judged
         return slots::unsound();
     }
     let named = lookup::named_slots(t);
-    let j = slots::judge_slots(named, store, wanted.0);
+    let j = slots::judge_slots(named, store, wanted);
     if !j.sound {
         return slots::unsound();
     }

@@ -7,8 +7,9 @@ ghost use mathlib.Core.Path.{_≡_};
 ghost use mathlib.Core.Bool.{true, false};
 ghost use mathlib.Core.List.{List};
 ghost use Prim.Native.Nat.{ℕ};
+ghost use lib.ListN.{replicate};
 ghost use Rattle.base.specs.Answer.{refused};
-ghost use Rattle.layout.specs.Answers.{answerOfLayout};
+ghost use Rattle.layout.specs.Answers.{answerOfLayout, startsIn};
 ghost use Rattle.layout.specs.Layouts.{layoutBody};
 ghost use Rattle.segments.specs.declared.Table.{Table};
 ghost use Rattle.lookup.specs.Lookup.{namedSlots};
@@ -16,15 +17,17 @@ ghost use Rattle.store.specs.Store.{bodyIn};
 ghost use Rattle.reference.specs.Sound.{isAccepted, slotSound, slotsSound};
 ghost use Rattle.soundness.specs.Judgements.{layoutNamed};
 
-// `read` is what the layout body in one slot reads as, the one that was asked for: a lookup would read it again. Where nothing was read, it is refused as
-// unsound.
+// `read` is what the layout body in one slot reads as, the one that was asked for: a lookup would read it again.
+// Where nothing was read, it is refused as unsound, and its starts are 0.
 pub struct Judged {
     pub read: LayoutRead,
     pub sound: bool,
 }
 
 pub(crate) fn unsound() -> Judged
-    ensures { λ r. ⌜ (r .sound ≡ false) × (answerOfLayout (r .read .answer) (r .read .starts) ≡ refused 20) ⌝ }
+    ensures { λ r. ⌜ (r .sound ≡ false)
+        × (answerOfLayout (r .read .answer) (r .read .starts) ≡ refused 20)
+        × (r .read .starts ≡ replicate 128 0) ⌝ }
 {
     let read = LayoutRead {
         answer: LayoutAnswer::Refused(Refusal::Unsound),
@@ -60,10 +63,12 @@ fn is_filled(slot: &[u8], answer: LayoutAnswer) -> bool
 }
 
 // `named` says of each slot whether a segment names it.
-pub(crate) fn judge_slots(named: [bool; 8], store: &[u8], wanted: u32) -> Judged
+pub(crate) fn judge_slots(named: [bool; 8], store: &[u8], wanted: SlotNumber) -> Judged
     ensures { λ r. ⌜ ((t : Table) → named ≡ namedSlots t
         → (r .sound ≡ slotsSound t (now (store .entry)) 8 0)
-        × (r .sound ≡ true → answerOfLayout (r .read .answer) (r .read .starts) ≡ layoutNamed t (now (store .entry)) wanted 8)) ⌝ }
+        × (r .sound ≡ true
+        → (answerOfLayout (r .read .answer) (r .read .starts) ≡ layoutNamed t (now (store .entry)) (wanted .0) 8)
+        × (r .read .starts ≡ startsIn (layoutNamed t (now (store .entry)) (wanted .0) 8)))) ⌝ }
 {
     let none = unsound();
     let mut read = none.read;
@@ -77,7 +82,7 @@ pub(crate) fn judge_slots(named: [bool; 8], store: &[u8], wanted: u32) -> Judged
             if !is_filled(slot, a) {
                 return none;
             }
-            if i == wanted {
+            if i == wanted.0 {
                 read = l;
             }
         } else {

@@ -1,11 +1,12 @@
 -- `soundness::judge` meets its contract, test by test.
+use Rattle.layout.specs.Answers.{startsIn}
 use Rattle.reference.specs.Sound.{sound}
-use Rattle.soundness.proofs.SlotLaws.{judged-sound, judged-unsound}
+use Rattle.soundness.proofs.SlotLaws.{judged-sound, judged-unsound, none-started}
 use borrow.Author.Needs.{needs}
 use borrow.Author.Tests.{eq-eqb, ne-eqb, not-false, not-true}
 use denote.Ref.{now}
 use mathlib.Core.Bool.{true, false, and-false, and-true}
-use mathlib.Core.Path.{_≡_, sym, _∙_}
+use mathlib.Core.Path.{_≡_, sym, ap, _∙_}
 use Rattle.soundness.proofs.judge.Statement.{statement}
 use Rattle.soundness.proofs.judge.Tie as tie
 
@@ -17,7 +18,8 @@ unfolding sound
 returns c =
     let a = c .before .before .before .args in
     let s : sound (a .t) (now (a .store)) ≡ false = rw (ne-eqb _ _ (c .before .if1 .taken), and-false) in
-    (c .unsound .ensures .0 ∙ sym s, c .unsound .ensures .1 ∙ sym (judged-unsound (a .t) (now (a .store)) (a .wanted .0) s))
+    let j = sym (judged-unsound (a .t) (now (a .store)) (a .wanted .0) s) in
+    (c .unsound .ensures .0 ∙ sym s, c .unsound .ensures .1 ∙ j, c .unsound .ensures .2 ∙ none-started _ j)
 
 lists-sound-requires : tie.Need-lists-sound-requires
 lists-sound-requires c κs = search needs
@@ -30,7 +32,8 @@ unfolding sound
 returns-2 c =
     let a = c .before .before .before .before .before .args in
     let s : sound (a .t) (now (a .store)) ≡ false = rw (sym (c .before .before .lists-sound .ensures) ∙ not-true _ (c .before .if2 .taken)) in
-    (c .unsound2 .ensures .0 ∙ sym s, c .unsound2 .ensures .1 ∙ sym (judged-unsound (a .t) (now (a .store)) (a .wanted .0) s))
+    let j = sym (judged-unsound (a .t) (now (a .store)) (a .wanted .0) s) in
+    (c .unsound2 .ensures .0 ∙ sym s, c .unsound2 .ensures .1 ∙ j, c .unsound2 .ensures .2 ∙ none-started _ j)
 
 named-slots-requires : tie.Need-named-slots-requires
 named-slots-requires c κs = search needs
@@ -46,7 +49,8 @@ unfolding sound
 returns-3 c =
     let a = c .before .before .before .before .before .before .before .before .before .args in
     let s : sound (a .t) (now (a .store)) ≡ false = rw (sym (c .before .before .before .before .before .before .lists-sound .ensures) ∙ not-false _ (c .before .before .before .before .before .if2 .left), sym (c .before .before .before .judge-slots .ensures (a .t) (c .before .before .before .before .named-slots .ensures) .0) ∙ not-true _ (c .before .if3 .taken)) in
-    (c .unsound3 .ensures .0 ∙ sym s, c .unsound3 .ensures .1 ∙ sym (judged-unsound (a .t) (now (a .store)) (a .wanted .0) s))
+    let j = sym (judged-unsound (a .t) (now (a .store)) (a .wanted .0) s) in
+    (c .unsound3 .ensures .0 ∙ sym s, c .unsound3 .ensures .1 ∙ j, c .unsound3 .ensures .2 ∙ none-started _ j)
 
 no-two-alike-requires : tie.Need-no-two-alike-requires
 no-two-alike-requires c κs = search needs
@@ -59,7 +63,8 @@ unfolding sound
 returns-4 c =
     let a = c .before .before .before .before .before .before .before .before .before .before .before .args in
     let s : sound (a .t) (now (a .store)) ≡ false = rw (sym (c .before .before .before .before .before .before .before .before .lists-sound .ensures) ∙ not-false _ (c .before .before .before .before .before .before .before .if2 .left), sym (c .before .before .before .before .before .judge-slots .ensures (a .t) (c .before .before .before .before .before .before .named-slots .ensures) .0) ∙ not-false _ (c .before .before .before .if3 .left), sym (c .before .before .no-two-alike .ensures (a .t) (c .before .before .before .before .before .before .named-slots .ensures)) ∙ not-true _ (c .before .if4 .taken)) in
-    (c .unsound4 .ensures .0 ∙ sym s, c .unsound4 .ensures .1 ∙ sym (judged-unsound (a .t) (now (a .store)) (a .wanted .0) s))
+    let j = sym (judged-unsound (a .t) (now (a .store)) (a .wanted .0) s) in
+    (c .unsound4 .ensures .0 ∙ sym s, c .unsound4 .ensures .1 ∙ j, c .unsound4 .ensures .2 ∙ none-started _ j)
 
 returns-5 : tie.Need-returns-5
 unfolding sound
@@ -67,7 +72,9 @@ returns-5 c =
     let a = c .before .before .before .before .before .before .before .before .before .before .args in
     let k = not-false _ (c .before .before .if3 .left) in
     let s : sound (a .t) (now (a .store)) ≡ true = rw (sym (c .before .before .before .before .before .before .before .lists-sound .ensures) ∙ not-false _ (c .before .before .before .before .before .before .if2 .left), sym (c .before .before .before .before .judge-slots .ensures (a .t) (c .before .before .before .before .before .named-slots .ensures) .0) ∙ k, sym (c .before .no-two-alike .ensures (a .t) (c .before .before .before .before .before .named-slots .ensures)) ∙ not-false _ (c .if4 .left), eq-eqb _ _ (c .before .before .before .before .before .before .before .before .if1 .left)) in
-    (k ∙ sym s, c .before .before .before .before .judge-slots .ensures (a .t) (c .before .before .before .before .before .named-slots .ensures) .1 k ∙ sym (judged-sound (a .t) (now (a .store)) (a .wanted .0) s))
+    let j = sym (judged-sound (a .t) (now (a .store)) (a .wanted .0) s) in
+    let r = c .before .before .before .before .judge-slots .ensures (a .t) (c .before .before .before .before .before .named-slots .ensures) .1 k in
+    (k ∙ sym s, r .0 ∙ j, r .1 ∙ ap startsIn j)
 
 pub judge-spec : {M : Type 1} → statement M
 judge-spec =

@@ -15,11 +15,11 @@ use Rattle.soundness.proofs.alike.is_held_from.Statement.{statement}
 use Rattle.soundness.proofs.alike.is_held_from.Tie as tie
 
 abbrev Inv-loop : tie.InvT-loop
-Inv-loop store from body named j₀ j =
-    (t : Table) → named ≡ namedSlots t → inSlots body (slotsFrom t store (8 - from) from) ≡ inSlots body (slotsFrom t store (8 - j) j)
+Inv-loop store body named j₀ j =
+    (t : Table) → named ≡ namedSlots t → inSlots body (slotsFrom t store (8 - j₀) j₀) ≡ inSlots body (slotsFrom t store (8 - j) j)
 
 abbrev μ-loop : tie.MeasureT-loop
-μ-loop store from body named j₀ j = 8 - j
+μ-loop store body named j₀ j = 8 - j
 
 loop-holds : tie.Need-loop-holds Inv-loop μ-loop
 loop-holds c = λ t e. refl

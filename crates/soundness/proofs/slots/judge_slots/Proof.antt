@@ -1,14 +1,14 @@
 -- `soundness::slots::judge_slots` meets its contract. The loop's invariant: the slots passed are sound, so what is left decides, and the wanted one was
 -- read if it was among them. The measure is how many are left.
 use Prim.Native.Nat.{ℕ, _+_, _-_, _≤_}
-use Rattle.layout.specs.Answers.{answerOfLayout}
+use Rattle.layout.specs.Answers.{answerOfLayout, startsIn}
 use Rattle.layout.specs.Layouts.{layoutBody}
 use Rattle.lookup.proofs.NamedLaws.{named-here}
 use Rattle.lookup.specs.Lookup.{namedSlots}
 use Rattle.reference.specs.Sound.{slotSound, slotsSound}
 use Rattle.segments.specs.Segments.{isNamed}
 use Rattle.segments.specs.declared.Table.{Table}
-use Rattle.soundness.proofs.SlotLaws.{read-elsewhere, read-here, read-none, read-unnamed, slot-fails, slot-passed, slots-none}
+use Rattle.soundness.proofs.SlotLaws.{none-started, read-elsewhere, read-here, read-none, read-unnamed, slot-fails, slot-passed, slots-none}
 use Rattle.soundness.specs.Judgements.{layoutNamed}
 use Rattle.store.specs.Store.{bodyIn, slotAt}
 use borrow.Author.Needs.{needs}
@@ -24,7 +24,9 @@ use Rattle.soundness.proofs.slots.judge_slots.Tie as tie
 abbrev Inv-loop : tie.InvT-loop
 Inv-loop store wanted named none read₀ i₀ read i =
     (i ≤ 8) × ((t : Table) → named ≡ namedSlots t
-    → (slotsSound t store 8 0 ≡ slotsSound t store (8 - i) i) × (answerOfLayout (read .answer) (read .starts) ≡ layoutNamed t store wanted i))
+    → (slotsSound t store 8 0 ≡ slotsSound t store (8 - i) i)
+    × (answerOfLayout (read .answer) (read .starts) ≡ layoutNamed t store (wanted .0) i)
+    × (read .starts ≡ startsIn (layoutNamed t store (wanted .0) i)))
 
 abbrev μ-loop : tie.MeasureT-loop
 μ-loop store wanted named none read₀ i₀ read i = 8 - i
@@ -33,7 +35,12 @@ unsound-requires : tie.Need-unsound-requires Inv-loop μ-loop
 unsound-requires c κs = search needs
 
 loop-holds : tie.Need-loop-holds Inv-loop μ-loop
-loop-holds c = (omega arith, λ t e. (refl, c .before .unsound .ensures .1 ∙ read-none t (now (c .before .before .before .args .store)) (c .before .before .before .args .wanted)))
+loop-holds c = (
+  omega arith,
+  λ t e.
+      let n = read-none t (now (c .before .before .before .args .store)) (c .before .before .before .args .wanted .0) in
+      (refl, c .before .unsound .ensures .1 ∙ n, c .before .unsound .ensures .2 ∙ none-started _ n),
+)
 
 cast-k : tie.Need-cast-k Inv-loop μ-loop
 cast-k c = search needs
@@ -86,28 +93,35 @@ loop-again : tie.Need-loop-again Inv-loop μ-loop
 unfolding slotSound
 loop-again c =
     let l = c .before .before .before .loop in
-    let store = now (c .before .before .before .before .before .before .before .args .store) in (
+    let store = now (c .before .before .before .before .before .before .before .args .store) in
+    let wanted = c .before .before .before .before .before .before .before .args .wanted in (
       omega arith,
       λ t e.
           let n = named-here t _ (l .i) e (omega arith) in
           ⊎-elim
           (λ w.
           let q = w .3 .ensures (w .2 .result .starts) (w .2 .ensures .0 ∙ ap layoutBody (w .1 .ensures)) in
-          let s : slotSound (isNamed t (l .i)) (slotAt store (l .i)) ≡ true = rw (n ∙ w .0 .taken, ← (c .before .slot-bytes .ensures)) (sym q ∙ not-false _ (w .4 .left)) in (
+          let s : slotSound (isNamed t (l .i)) (slotAt store (l .i)) ≡ true = rw (n ∙ w .0 .taken, ← (c .before .slot-bytes .ensures)) (sym q ∙ not-false _ (w .4 .left)) in
+          let r = ap layoutBody (w .1 .ensures ∙ ap bodyIn (c .before .slot-bytes .ensures)) ∙ (read-here t store (l .i) (n ∙ w .0 .taken) ∙ ap (λ (v : ℕ). layoutNamed t store v (l .i + 1)) (w .6 .taken)) in (
             l .inv .1 t e .0 ∙ slot-passed t store 8 (l .i) (omega arith) s,
-            rw (w .6) (w .2 .ensures .0 ∙ (ap layoutBody (w .1 .ensures ∙ ap bodyIn (c .before .slot-bytes .ensures)) ∙ (read-here t store (l .i) (n ∙ w .0 .taken) ∙ ap (λ (v : ℕ). layoutNamed t store v (l .i + 1)) (w .5 .taken)))),
+            rw (w .7) (w .2 .ensures .0 ∙ r),
+            rw (w .7) (w .2 .ensures .1 ∙ ap startsIn r),
           ))
           (⊎-elim
           (λ w.
           let q = w .3 .ensures (w .2 .result .starts) (w .2 .ensures .0 ∙ ap layoutBody (w .1 .ensures)) in
-          let s : slotSound (isNamed t (l .i)) (slotAt store (l .i)) ≡ true = rw (n ∙ w .0 .taken, ← (c .before .slot-bytes .ensures)) (sym q ∙ not-false _ (w .4 .left)) in (
+          let s : slotSound (isNamed t (l .i)) (slotAt store (l .i)) ≡ true = rw (n ∙ w .0 .taken, ← (c .before .slot-bytes .ensures)) (sym q ∙ not-false _ (w .4 .left)) in
+          let r = read-elsewhere t store (wanted .0) (l .i) (w .6 .left) in (
             l .inv .1 t e .0 ∙ slot-passed t store 8 (l .i) (omega arith) s,
-            rw (w .6) (l .inv .1 t e .1 ∙ read-elsewhere t store (c .before .before .before .before .before .before .before .args .wanted) (l .i) (w .5 .left)),
+            rw (w .7) (l .inv .1 t e .1 ∙ r),
+            rw (w .7) (l .inv .1 t e .2 ∙ ap startsIn r),
           ))
           (λ w.
-          let s : slotSound (isNamed t (l .i)) (slotAt store (l .i)) ≡ true = rw (n ∙ w .0 .left, ← (c .before .slot-bytes .ensures)) (sym (w .1 .ensures) ∙ not-false _ (w .2 .left)) in (
+          let s : slotSound (isNamed t (l .i)) (slotAt store (l .i)) ≡ true = rw (n ∙ w .0 .left, ← (c .before .slot-bytes .ensures)) (sym (w .1 .ensures) ∙ not-false _ (w .2 .left)) in
+          let r = read-unnamed t store (wanted .0) (l .i) (n ∙ w .0 .left) in (
             l .inv .1 t e .0 ∙ slot-passed t store 8 (l .i) (omega arith) s,
-            rw (w .3) (l .inv .1 t e .1 ∙ read-unnamed t store (c .before .before .before .before .before .before .before .args .wanted) (l .i) (n ∙ w .0 .left)),
+            rw (w .3) (l .inv .1 t e .1 ∙ r),
+            rw (w .3) (l .inv .1 t e .2 ∙ ap startsIn r),
           )))
           (c .if1 .came),
     )
@@ -116,7 +130,10 @@ returns-3 : tie.Need-returns-3 Inv-loop μ-loop
 returns-3 c =
     let l = c .before .loop in
     let z : l .i ≡ 8 = omega arith in
-    λ t e. (sym (l .inv .1 t e .0 ∙ slots-none t (now (c .before .before .before .before .before .args .store)) 8 (l .i) (omega arith)), λ k. l .inv .1 t e .1 ∙ ap (layoutNamed t (now (c .before .before .before .before .before .args .store)) (c .before .before .before .before .before .args .wanted)) z)
+    let a = c .before .before .before .before .before .args in
+    λ t e.
+    let r = ap (layoutNamed t (now (a .store)) (a .wanted .0)) z in
+    (sym (l .inv .1 t e .0 ∙ slots-none t (now (a .store)) 8 (l .i) (omega arith)), λ k. (l .inv .1 t e .1 ∙ r, l .inv .1 t e .2 ∙ ap startsIn r))
 
 pub judge-slots-spec : {M : Type 1} → statement M
 judge-slots-spec =
