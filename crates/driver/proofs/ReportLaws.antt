@@ -1,17 +1,14 @@
 -- What was read of error reports, in plain numbers.
-use Prim.Native.Nat.{ℕ}
-use mathlib.Core.Path.{_≡_, _∙_}
+use mathlib.Core.Path.{_≡_}
 use mathlib.Core.List.{List}
 use Rattle.base.specs.Answer.{Answer, accepted, refused, given}
 use Rattle.report.specs.Reports.{Report}
-use Rattle.report.specs.Answers.{countOf, headsOf, placesOf, reportsIn}
-use Rattle.report.specs.declared.ReportHead.{ReportHead}
-use Rattle.wire_record.specs.Reports.{numberOfCount, refusalIn, reportsResult}
-use Rattle.wire_record.specs.declared.reports.ReportsResult.{ReportsResult}
+use Rattle.report.specs.Answers.{answerOfCount, countOf, headsOf, placesOf, reportsIn}
+use Rattle.report.specs.declared.body.ReportsRead.{ReportsRead}
+use Rattle.wire_record.specs.Reports.{answerOfReports, arraysIn}
 
-pub reports-are : (a : Answer (List Report)) (n : Answer ℕ) (heads : List ReportHead) (places : List ℕ) (y : ReportsResult)
-    → y ≡ record { refusal = refusalIn n; count = numberOfCount n; heads = heads; «errors_at» = places }
-    → n ≡ countOf a → heads ≡ headsOf (reportsIn a) → places ≡ placesOf (reportsIn a) → y ≡ reportsResult a
-unfolding reportsResult countOf given
-reports-are (accepted rs) n heads places y q e h p = q ∙ rw (e, h, p)
-reports-are (refused m) n heads places y q e h p = q ∙ rw (e, h, p)
+pub reports-are : (a : Answer (List Report)) (x : ReportsRead)
+    → answerOfCount (x .answer) ≡ countOf a → x .heads ≡ headsOf (reportsIn a) → x .«errors_at» ≡ placesOf (reportsIn a) → answerOfReports x ≡ arraysIn a
+unfolding countOf given
+reports-are (accepted rs) x e h p = rw (e, h, p)
+reports-are (refused n) x e h p = rw e

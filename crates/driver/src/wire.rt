@@ -17,7 +17,7 @@ ghost use Rattle.report.specs.Reports.{errorAt, reportBody};
 ghost use Rattle.wire_record.specs.Layouts.{layout4Result, layoutResult};
 ghost use Rattle.wire_record.specs.Devices.{deviceResult};
 ghost use Rattle.wire_record.specs.Bindings.{bindResult};
-ghost use Rattle.wire_record.specs.Reports.{errorResult, reportsResult};
+ghost use Rattle.wire_record.specs.Reports.{arraysIn, errorResult, reportsResult};
 
 #[no_mangle]
 pub extern "C" fn basilothyn_read_layout(body: &[u8]) -> LayoutResult
@@ -59,7 +59,7 @@ pub extern "C" fn basilothyn_bind(
 
 #[no_mangle]
 pub extern "C" fn basilothyn_read_reports(body: &[u8]) -> ReportsResult
-    ensures { λ r. ⌜ r ≡ reportsResult (reportBody (now (body .entry))) ⌝ }
+    ensures { λ r. ⌜ r ≡ reportsResult (arraysIn (reportBody (now (body .entry)))) ⌝ }
 {
     wire_record::reports_result(report::read_reports(body))
 }

@@ -1,27 +1,40 @@
 -- Error reports in plain numbers: 0 and the values, or the refusal's number and zeros.
 use Prim.Native.Nat.{ℕ}
-use mathlib.Core.List.{List, []}
-use lib.ListN.{length}
-use Rattle.base.specs.Answer.{Answer, accepted, refused}
+use mathlib.Core.List.{List}
+use lib.ListN.{length, replicate}
+use Rattle.base.specs.Answer.{Answer, accepted, refused, given}
 use Rattle.xdr.specs.Res.{Res, ok, no}
 use Rattle.report.specs.Reports.{Report}
-use Rattle.report.specs.Answers.{headsOf, placesOf}
+use Rattle.report.specs.Answers.{answerOfCount, blankHead, headsOf, placesOf}
 use Rattle.report.specs.declared.ErrorItem.{ErrorItem}
+use Rattle.report.specs.declared.ReportHead.{ReportHead}
+use Rattle.report.specs.declared.body.ReportsRead.{ReportsRead}
 use Rattle.wire_record.specs.declared.reports.ReportsResult.{ReportsResult}
 use Rattle.wire_record.specs.declared.errors.ErrorResult.{ErrorResult}
 
--- the number of a refusal, 0 where there is none
-abbrev pub refusalIn : {A : Type 0} → Answer A → ℕ
-refusalIn (accepted a) = 0
-refusalIn (refused n) = n
+-- how many reports there are, and in 8 places each their heads and where the first error of each stands
+pub record ReportArrays : Type 0 where
+  pub count : ℕ
+  pub heads : List ReportHead
+  pub places : List ℕ
 
-abbrev pub numberOfCount : Answer ℕ → ℕ
-numberOfCount (accepted n) = n
-numberOfCount (refused e) = 0
+-- of the reports of a body
+abbrev pub arraysIn : Answer (List Report) → Answer ReportArrays
+arraysIn a = given a λ rs. accepted (record { count = length rs; heads = headsOf rs; places = placesOf rs })
 
-unfoldable pub reportsResult : Answer (List Report) → ReportsResult
-reportsResult (accepted rs) = record { refusal = 0; count = length rs; heads = headsOf rs; «errors_at» = placesOf rs }
-reportsResult (refused n) = record { refusal = n; count = 0; heads = headsOf []; «errors_at» = placesOf [] }
+-- of what the reader answers, whatever stands beside a refusal
+abbrev pub answerOfReports : ReportsRead → Answer ReportArrays
+answerOfReports x =
+    given (answerOfCount (x .answer)) λ n. accepted (record { count = n; heads = x .heads; places = x .«errors_at» })
+
+unfoldable pub reportsResult : Answer ReportArrays → ReportsResult
+reportsResult (accepted a) = record { refusal = 0; count = a .count; heads = a .heads; «errors_at» = a .places }
+reportsResult (refused n) = record {
+  refusal = n;
+  count = 0;
+  heads = replicate 8 blankHead;
+  «errors_at» = replicate 8 0;
+}
 
 -- one error, whatever stands behind it
 unfoldable pub errorResult : Res ErrorItem → ErrorResult

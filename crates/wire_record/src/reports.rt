@@ -1,10 +1,9 @@
-// Error reports, read.
+// What was read of an `ff_layoutreturn4` body: how many error reports, their heads, and where their errors stand.
 use report::ReportAnswer;
 use report::ReportHead;
 use report::ReportsRead;
 ghost use mathlib.Core.Path.{_≡_};
-ghost use Rattle.report.specs.Answers.{answerOfCount};
-ghost use Rattle.wire_record.specs.Reports.{numberOfCount, refusalIn};
+ghost use Rattle.wire_record.specs.Reports.{answerOfReports, reportsResult};
 
 // The first error of each report stands at its place in errors_at.
 #[repr(C)]
@@ -15,13 +14,15 @@ pub struct ReportsResult {
     pub errors_at: [usize; 8],
 }
 
+const NO_HEAD: ReportHead = ReportHead {
+    offset: 0,
+    length: 0,
+    stateid: [0u8; 16],
+    errors: 0,
+};
+
 pub fn reports_result(x: ReportsRead) -> ReportsResult
-    ensures { λ r. ⌜ r ≡ record {
-      refusal = refusalIn (answerOfCount (x .answer));
-      count = numberOfCount (answerOfCount (x .answer));
-      heads = x .heads;
-      «errors_at» = x .«errors_at»;
-    } ⌝ }
+    ensures { λ r. ⌜ r ≡ reportsResult (answerOfReports x) ⌝ }
 {
     let heads = x.heads;
     let errors_at = x.errors_at;
@@ -30,8 +31,8 @@ pub fn reports_result(x: ReportsRead) -> ReportsResult
         ReportAnswer::Refused(e) => ReportsResult {
             refusal: base::number(e),
             count: 0,
-            heads,
-            errors_at,
+            heads: [NO_HEAD; 8],
+            errors_at: [0usize; 8],
         },
         ReportAnswer::Count(n) => ReportsResult {
             refusal: 0,

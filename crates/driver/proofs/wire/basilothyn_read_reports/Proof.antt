@@ -1,5 +1,7 @@
 use Rattle.driver.proofs.ReportLaws.{reports-are}
+use Rattle.wire_record.specs.Reports.{reportsResult}
 use borrow.Author.Needs.{needs}
+use mathlib.Core.Path.{ap, _∙_}
 use Rattle.driver.proofs.wire.basilothyn_read_reports.Statement.{statement}
 use Rattle.driver.proofs.wire.basilothyn_read_reports.Tie as tie
 
@@ -10,7 +12,9 @@ reports-result-requires : tie.Need-reports-result-requires
 reports-result-requires c κs = search needs
 
 returns : tie.Need-returns
-returns c = reports-are _ _ _ _ _ (c .reports-result .ensures) (c .before .read-reports .ensures .0) (c .before .read-reports .ensures .1) (c .before .read-reports .ensures .2)
+returns c =
+    let r = c .before .read-reports in
+    c .reports-result .ensures ∙ ap reportsResult (reports-are _ (r .result) (r .ensures .0) (r .ensures .1) (r .ensures .2))
 
 pub basilothyn-read-reports-spec : {M : Type 1} → statement M
 basilothyn-read-reports-spec =

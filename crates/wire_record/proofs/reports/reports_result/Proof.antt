@@ -1,4 +1,6 @@
 -- `wire_record::reports::reports_result` meets its contract: the refusal, or what was read.
+use Rattle.base.specs.Answer.{given}
+use Rattle.wire_record.specs.Reports.{reportsResult}
 use borrow.Author.Needs.{needs}
 use Rattle.wire_record.proofs.reports.reports_result.Statement.{statement}
 use Rattle.wire_record.proofs.reports.reports_result.Tie as tie
@@ -13,9 +15,11 @@ enum-known-a-2 : tie.Need-enum-known-a-2
 enum-known-a-2 c = search needs
 
 returns : tie.Need-returns
+unfolding reportsResult given
 returns c = rw (c .before .before .a .given .1, c .number .ensures)
 
 returns-2 : tie.Need-returns-2
+unfolding reportsResult given
 returns-2 c = rw (c .before .a2 .given .1)
 
 pub reports-result-spec : {M : Type 1} → statement M
