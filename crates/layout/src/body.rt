@@ -27,7 +27,7 @@ pub enum LayoutAnswer {
     Refused(Refusal),
 }
 
-// The start of a data server stands at 16 times its mirror and its stripe; 0 in unused places, and everywhere after a refusal.
+// The start of a data server stands at the index mirror * 16 + stripe. Unused places are 0, and all after a refusal.
 pub struct LayoutRead {
     pub answer: LayoutAnswer,
     pub starts: [u16; 128],

@@ -49,7 +49,7 @@ fn read_mirror(s: &[u8], c: Cursor, n: u32, first: usize, starts: &mut [u16; 128
     read_servers(s, d, n, first, starts)
 }
 
-// All mirrors, from the first server on. The index of a start is 16 times its mirror and its stripe.
+// All mirrors, from the first server on. The start of a server stands at the index mirror * 16 + stripe.
 pub(crate) fn read_mirrors(
     s: &[u8],
     c: Cursor,

@@ -1,4 +1,4 @@
-// Bindings.
+// What a binding answers: the version entry chosen, and where in the layout body its filehandle and credentials stand.
 use crate::devices::NO_VERSION;
 use crate::devices::VersionRecord;
 use crate::devices::version_record;

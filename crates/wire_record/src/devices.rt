@@ -1,4 +1,4 @@
-// Device bodies.
+// What was read of a device body: its addresses, each with its netid's class as a number, and its version entries.
 use crate::layouts::PartRecord;
 use crate::layouts::part_record;
 use device::DeviceAnswer;

@@ -1,4 +1,4 @@
-// Layout bodies and layout4s.
+// What was read of a layout body or of a whole layout4: the summary, the starts of the data servers, and the range.
 use layout::LayoutAnswer;
 use layout::LayoutRead;
 use layout::Summary;
@@ -25,7 +25,7 @@ pub struct SummaryRecord {
     pub hint: u32,
 }
 
-// The start of a data server stands at 16 times its mirror and its stripe.
+// The start of a data server stands at the index mirror * 16 + stripe.
 #[repr(C)]
 pub struct LayoutResult {
     pub refusal: u32,

@@ -1,4 +1,4 @@
--- `numbers::store::put_be` meets its contract. The loop's invariant: what is still to be stored over the buffer now is what was to be stored
+-- `buffers::store::put_be` meets its contract. The loop's invariant: what is still to be stored over the buffer now is what was to be stored
 -- over the buffer at the start. The measure is how many bytes are left.
 use Prim.Native.Nat.{ℕ, _≤_}
 use Rattle.buffers.proofs.StoredLaws.{last-byte-first}

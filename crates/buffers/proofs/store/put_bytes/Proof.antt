@@ -1,4 +1,4 @@
--- `numbers::store::put_bytes` meets its contract. The loop's invariant: the buffer now is the one at the start with the bytes passed stored in
+-- `buffers::store::put_bytes` meets its contract. The loop's invariant: the buffer now is the one at the start with the bytes passed stored in
 -- it. The measure is how many bytes are left.
 use Prim.Native.Nat.{_+_, _-_, _≤_}
 use Rattle.buffers.proofs.StoredLaws.{fits-stored, next-stored, unfit-stored}

@@ -1,4 +1,4 @@
--- `numbers::zeros::put_zeros` meets its contract. The loop's invariant: the buffer now is the one at the start with the zeros passed stored in
+-- `buffers::zeros::put_zeros` meets its contract. The loop's invariant: the buffer now is the one at the start with the zeros passed stored in
 -- it. The measure is how many are left.
 use Prim.Native.Nat.{ℕ, _+_, _-_, _≤_}
 use Rattle.buffers.proofs.StoredLaws.{fits-stored, next-stored, unfit-stored}

@@ -1,4 +1,4 @@
--- `device::version::read_version` meets its contract: five fields one after the other, then the judgement. `kI` is the place after field I.
+-- `device_version::version::read_version` meets its contract: five fields one after the other, then the judgement. `kI` is the place after field I.
 use Rattle.base.specs.Answer.{pick}
 use Rattle.device_version.specs.Versions.{judged, versionAt}
 use Rattle.xdr.proofs.Steps.{came, handed}

@@ -1,4 +1,4 @@
--- `device::version::version_fits` meets its contract: the sizes, then the version's own rule.
+-- `device_version::version::version_fits` meets its contract: the sizes, then the version's own rule.
 use Rattle.device_version.specs.Versions.{versionFits}
 use borrow.Author.Tests.{le-leb, lt-leb, eq-eqb, ne-eqb}
 use mathlib.Core.Bool.{or-false}

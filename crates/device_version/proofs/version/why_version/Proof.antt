@@ -1,4 +1,4 @@
--- `device::version::why_version` meets its contract.
+-- `device_version::version::why_version` meets its contract.
 use Rattle.device_version.specs.Answers.{whyVersion}
 use borrow.Author.Needs.{needs}
 use mathlib.Core.Path.{sym, ap}

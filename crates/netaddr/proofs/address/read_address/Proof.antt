@@ -1,4 +1,4 @@
--- `device::address::read_address` meets its contract: the netid, the address, then the netid's class. `k1` and `k2` are the places after them.
+-- `netaddr::address::read_address` meets its contract: the netid, the address, then the netid's class. `k1` and `k2` are the places after them.
 use Prim.Native.Nat.{_+_, _-_}
 use Rattle.netaddr.proofs.AddressLaws.{part-within}
 use Rattle.netaddr.specs.Addresses.{addressAt}

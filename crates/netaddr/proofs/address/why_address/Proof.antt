@@ -1,4 +1,4 @@
--- `device::address::why_address` meets its contract.
+-- `netaddr::address::why_address` meets its contract.
 use Rattle.netaddr.specs.Answers.{whyAddress}
 use borrow.Author.Needs.{needs}
 use mathlib.Core.Path.{sym, ap}
