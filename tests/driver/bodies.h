@@ -11,19 +11,19 @@ struct bytes {
     size_t length;
 };
 
-static void put(struct bytes *b, uint64_t number, unsigned width)
+static inline void put(struct bytes *b, uint64_t number, unsigned width)
 {
     while (width-- > 0)
         b->at[b->length++] = (uint8_t)(number >> 8 * width);
 }
 
-static void put_copies(struct bytes *b, uint8_t byte, size_t count)
+static inline void put_copies(struct bytes *b, uint8_t byte, size_t count)
 {
     memset(b->at + b->length, byte, count);
     b->length += count;
 }
 
-static void put_opaque(struct bytes *b, const char *text)
+static inline void put_opaque(struct bytes *b, const char *text)
 {
     size_t length = strlen(text);
 
@@ -33,11 +33,11 @@ static void put_opaque(struct bytes *b, const char *text)
     put_copies(b, 0, (4 - length % 4) % 4);
 }
 
-/* Every data server has the same device id and stateid (16 times one byte), user and group, and as many filehandles:
- * "a", "b", and so on. Mirror m has the efficiency efficiency[m]. */
+/* Every data server has the same device id and stateid (16 times one byte), user and group, and as many filehandles of
+ * one length: "a", "b", and so on, or longer. Mirror m has the efficiency efficiency[m]. */
 struct layout_plan {
     uint64_t unit;
-    uint32_t mirrors, servers, handles, flags, hint;
+    uint32_t mirrors, servers, handles, handle_length, flags, hint;
     uint32_t efficiency[16];
     uint8_t device, stateid;
     const char *user, *group;
@@ -45,21 +45,24 @@ struct layout_plan {
 
 /* One mirror of one data server: the smallest body. */
 static const struct layout_plan smallest = {
-    .mirrors = 1, .servers = 1, .handles = 1, .device = 1, .user = "", .group = ""};
+    .mirrors = 1, .servers = 1, .handles = 1, .handle_length = 1, .device = 1, .user = "", .group = ""};
 
-static void put_server(struct bytes *b, const struct layout_plan *p, uint32_t mirror)
+static inline void put_server(struct bytes *b, const struct layout_plan *p, uint32_t mirror)
 {
     put_copies(b, p->device, 16);
     put(b, p->efficiency[mirror], 4);
     put_copies(b, p->stateid, 16);
     put(b, p->handles, 4);
-    for (uint32_t i = 0; i < p->handles; i++)
-        put_opaque(b, (const char[]){(char)('a' + i), 0});
+    for (uint32_t i = 0; i < p->handles; i++) {
+        put(b, p->handle_length, 4);
+        put_copies(b, (uint8_t)('a' + i), p->handle_length);
+        put_copies(b, 0, (4 - p->handle_length % 4) % 4);
+    }
     put_opaque(b, p->user);
     put_opaque(b, p->group);
 }
 
-static struct bytes layout_body(struct layout_plan p)
+static inline struct bytes layout_body(struct layout_plan p)
 {
     struct bytes b = {.length = 0};
 
@@ -75,7 +78,7 @@ static struct bytes layout_body(struct layout_plan p)
     return b;
 }
 
-static struct bytes layout4(uint64_t offset, uint64_t length, uint32_t iomode, struct layout_plan p)
+static inline struct bytes layout4(uint64_t offset, uint64_t length, uint32_t iomode, struct layout_plan p)
 {
     struct bytes body = layout_body(p), b = {.length = 0};
 
@@ -94,7 +97,7 @@ struct version_plan {
 };
 
 /* Address after address of one netid and text, then the version entries. */
-static struct bytes device_body(uint32_t addresses, const char *netid, const char *text, uint32_t versions,
+static inline struct bytes device_body(uint32_t addresses, const char *netid, const char *text, uint32_t versions,
                                 const struct version_plan *v)
 {
     struct bytes b = {.length = 0};
@@ -117,7 +120,7 @@ static struct bytes device_body(uint32_t addresses, const char *netid, const cha
 
 /* Reports of the bytes 1 to 2 with a stateid of threes. Error number n of the body is of the device whose id is 16
  * times n, with the status n + 1, in a WRITE. */
-static struct bytes report_body(uint32_t reports, uint32_t errors)
+static inline struct bytes report_body(uint32_t reports, uint32_t errors)
 {
     struct bytes b = {.length = 0};
 
