@@ -3,8 +3,17 @@
 /// The most segments of an iomode.
 pub const SEGMENTS: usize = 32;
 
+/// The bytes of a slot.
+pub const SLOT_LENGTH: usize = 4_096;
+
 /// The bytes of a store.
 pub const STORE_LENGTH: usize = 32_768;
+
+/// The most mirrors of a layout.
+pub const MIRRORS: usize = 8;
+
+/// The most data servers of a mirror.
+pub const SERVERS: usize = 16;
 
 /// Kind 0 is none, 1 granted, 2 recalled; with none the slot is 0.
 #[repr(C)]
@@ -62,13 +71,13 @@ pub struct SummaryRecord {
     pub hint: u32,
 }
 
-/// The data server of a mirror and a stripe starts at `starts[16 * mirror + stripe]`.
+/// The data server of a mirror and a stripe starts at `starts[SERVERS * mirror + stripe]`.
 #[repr(C)]
 #[derive(Clone, Copy, Debug, PartialEq, Eq)]
 pub struct LayoutResult {
     pub refusal: u32,
     pub summary: SummaryRecord,
-    pub starts: [u16; 128],
+    pub starts: [u16; MIRRORS * SERVERS],
 }
 
 #[repr(C)]
@@ -81,7 +90,7 @@ pub struct Layout4Result {
     pub last: u64,
     pub body: PartRecord,
     pub summary: SummaryRecord,
-    pub starts: [u16; 128],
+    pub starts: [u16; MIRRORS * SERVERS],
 }
 
 #[repr(C)]

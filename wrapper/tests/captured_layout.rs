@@ -1,6 +1,6 @@
 //! A captured layout through the safe types; the expected numbers are worked out by hand in docs/CHART.md.
 
-use basilothyn::{Iomode, Layouts, Piece, Refusal};
+use basilothyn::{Iomode, Layouts, MirrorNumber, Piece, Refusal, SlotNumber, StripeNumber};
 
 const P4: &[u8] = include_bytes!("../../captures/patched-server/P4_striped_lg000_0.bin");
 
@@ -10,28 +10,65 @@ fn granted() -> Layouts {
     layouts
 }
 
+/// Served by RW from slot 0, by mirror 0 alone.
+fn is_piece(piece: Result<Piece, Refusal>, stripe: u32, offset: u64, length: u64) {
+    let piece = piece.expect("a right");
+    assert_eq!((piece.iomode, piece.slot, piece.stripe), (Iomode::ReadWrite, SlotNumber(0), StripeNumber(stripe)));
+    assert_eq!((piece.offset, piece.length), (offset, length));
+    assert_eq!(piece.mirrors.iter().collect::<Vec<_>>(), [MirrorNumber(0)]);
+}
+
 #[test]
 fn a_write_goes_to_the_stripe_of_its_unit() {
-    let piece = Piece { iomode: 2, slot: 0, stripe: 0, offset: 65_535, length: 1, mirrors: 1 };
-    assert_eq!(granted().locate_write(65_535, 4_096), Ok(piece));
-    let piece = Piece { iomode: 2, slot: 0, stripe: 1, offset: 65_536, length: 4_096, mirrors: 1 };
-    assert_eq!(granted().locate_read(65_536, 4_096), Ok(piece));
-    assert_eq!(granted().body(0), &P4[28..]);
+    is_piece(granted().locate_write(65_535, 4_096), 0, 65_535, 1);
+    is_piece(granted().locate_read(65_536, 4_096), 1, 65_536, 4_096);
+}
+
+#[test]
+fn a_slot_has_the_body_until_it_is_cleared() {
+    let mut layouts = granted();
+    assert_eq!(layouts.body(SlotNumber(0)), &P4[28..]);
+    let layout = layouts.layout(SlotNumber(0)).expect("a body");
+    assert_eq!((layout.unit(), layout.mirror_count(), layout.server_count()), (65_536, 1, 2));
+    for empty in [SlotNumber(1), SlotNumber(7), SlotNumber(8), SlotNumber(u32::MAX)] {
+        assert_eq!(layouts.body(empty), []);
+        assert_eq!(layouts.layout(empty), Err(Refusal::BytesRunOut));
+    }
+    assert_eq!(layouts.revoke(), Ok(()));
+    assert_eq!(layouts.body(SlotNumber(0)), []);
 }
 
 #[test]
 fn nothing_is_written_after_a_recall() {
     let mut layouts = granted();
     assert_eq!(layouts.recall(0, u64::MAX, Iomode::Any), Ok(()));
-    assert_eq!(layouts.locate_write(0, 1), Err(Refusal(17)));
-    assert_eq!(layouts.grant(P4), Err(Refusal(22)));
+    assert_eq!(layouts.locate_write(0, 1), Err(Refusal::RightMissing));
+    assert_eq!(layouts.grant(P4), Err(Refusal::RecalledInRange));
     assert_eq!(layouts.layout_return(0, u64::MAX, Iomode::Any), Ok(()));
-    assert_eq!(layouts.recall(0, 1, Iomode::Any), Err(Refusal(25)));
+    assert_eq!(layouts.recall(0, 1, Iomode::Any), Err(Refusal::NothingHeld));
+    assert_eq!(layouts, Layouts::default());
+}
+
+#[test]
+fn an_iomode_is_recalled_by_itself() {
+    let mut layouts = granted();
+    assert_eq!(layouts.recall(0, u64::MAX, Iomode::Read), Err(Refusal::NothingHeld));
+    is_piece(layouts.locate_write(0, 1), 0, 0, 1);
+    assert_eq!(layouts.recall(0, u64::MAX, Iomode::ReadWrite), Ok(()));
+    assert_eq!(layouts.locate_write(0, 1), Err(Refusal::RightMissing));
+}
+
+#[test]
+fn a_refused_event_changes_nothing() {
+    let mut layouts = granted();
+    assert_eq!(layouts.layout_return(1, 0, Iomode::Any), Err(Refusal::RangeInvalid));
+    assert_eq!(layouts.grant(&P4[..100]), Err(Refusal::BytesRunOut));
+    assert_eq!(layouts, granted());
 }
 
 #[test]
 fn a_revoke_takes_every_right() {
     let mut layouts = granted();
     assert_eq!(layouts.revoke(), Ok(()));
-    assert_eq!(layouts.locate_read(0, 1), Err(Refusal(17)));
+    assert_eq!(layouts.locate_read(0, 1), Err(Refusal::RightMissing));
 }

@@ -2,7 +2,8 @@
 
 use crate::tally::Tally;
 use crate::{expected, same};
-use basilothyn::raw::{self, ErrorRecord, ReportHeads, ReportsResult};
+use basilothyn::raw::{self, ErrorRecord, ReportHeads};
+use basilothyn::{IoError, Refusal};
 use independent::binding::bind;
 use independent::cases::{Case, ReportWrite};
 use independent::device::read_device_body;
@@ -41,7 +42,7 @@ pub fn compare(case: &Case, tally: &mut Tally) -> Result<(), String> {
             tally.count(answered.refusal);
             let read = read_reports(body);
             same("the reports", expected::reports(read.clone()), answered)?;
-            compare_walk(body, &answered, &read.map_or(Vec::new(), |reports| reports.errors))?;
+            compare_walk(body, answered.refusal, &read.map_or(Vec::new(), |reports| reports.errors))?;
             compare_errors(body, tally)
         }
         Case::ReportWrite(case) => compare_writing(case, tally),
@@ -49,12 +50,12 @@ pub fn compare(case: &Case, tally: &mut Tally) -> Result<(), String> {
     }
 }
 
-/// The errors of an accepted body, each read at its place.
-fn compare_walk(body: &[u8], reports: &ReportsResult, errors: &[DeviceError]) -> Result<(), String> {
-    let in_use = reports.heads.iter().zip(reports.errors_at).take(reports.count as usize);
-    let places = in_use.flat_map(|(head, first)| (0..head.errors as usize).map(move |k| first + 24 * k));
-    let walked: Vec<_> = places.map(|at| basilothyn::read_error(body, at)).collect();
-    let expected: Vec<_> = errors.iter().map(|e| Ok(error_record(e))).collect();
+/// The errors of an accepted body, each read at its place by the wrapper; or the refusal.
+fn compare_walk(body: &[u8], refusal: u32, errors: &[DeviceError]) -> Result<(), String> {
+    let record = |e: IoError| ErrorRecord { device: e.device.0, status: e.status, operation: e.operation as u32 };
+    let read = basilothyn::read_reports(body).map_err(Refusal::number);
+    let walked = read.map(|reports| reports.into_iter().flat_map(|r| r.errors).map(record).collect());
+    let expected = if refusal == 0 { Ok(errors.iter().map(error_record).collect::<Vec<_>>()) } else { Err(refusal) };
     same("the errors of the reports", expected, walked)
 }
 
