@@ -67,6 +67,37 @@ fn a_device_is_what_the_dissector_read() {
     assert_eq!(Device::read(id(0), &DEVICE[..DEVICE.len() - 1]), Err(Refusal::BytesRunOut));
 }
 
+/// A device with one address of a netid, and version 3 with sizes of 1.
+fn body_with_netid(netid: &[u8]) -> Vec<u8> {
+    let mut body = vec![0, 0, 0, 1, 0, 0, 0, netid.len() as u8];
+    body.extend(netid);
+    body.resize(body.len().next_multiple_of(4), 0);
+    body.extend([0, 0, 0, 1, b'a', 0, 0, 0]);
+    for number in [1, 3, 0, 1, 1, 0] {
+        body.extend([0, 0, 0, number]);
+    }
+    body
+}
+
+#[test]
+fn a_netid_is_classed() {
+    let classes: [(&[u8], Netid); 8] = [
+        (b"tcp", Netid::Tcp),
+        (b"tcp6", Netid::Tcp6),
+        (b"udp", Netid::Udp),
+        (b"udp6", Netid::Udp6),
+        (b"rdma", Netid::Rdma),
+        (b"rdma6", Netid::Rdma6),
+        (b"TCP", Netid::Other),
+        (b"tcp7", Netid::Other),
+    ];
+    for (netid, class) in classes {
+        let body = body_with_netid(netid);
+        let device = Device::read(id(0), &body).expect("a device");
+        assert_eq!(device.addresses, [Address { netid: class, text: b"a" }]);
+    }
+}
+
 #[test]
 fn the_first_version_that_is_spoken_is_bound() {
     let owner = Identity::Owner { user: b"0", group: b"0" };
