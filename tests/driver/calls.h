@@ -1,5 +1,5 @@
-/* What the tests of the header share: how a fact is checked and a name noted as tested, the header's functions over what
- * bodies.h makes, and a file with its table and store. */
+/* What the tests of the header share: how a fact is checked and a name noted as tested, the header's functions over
+ * what bodies.h makes, and a file with its table and store. */
 #ifndef CALLS_H
 #define CALLS_H
 
@@ -24,7 +24,8 @@ static inline void tested(const char *name)
     printf("tested %s\n", name);
 }
 
-static inline void constant(const char *name, uint64_t header, uint64_t paper, uint64_t core, const char *file, int line)
+static inline void constant(const char *name, uint64_t header, uint64_t paper, uint64_t core, const char *file,
+                            int line)
 {
     tested(name);
     check(header == paper, name, file, line);

@@ -308,7 +308,8 @@ static void test_texts(void)
         CHECK(strstr(text, words[number]) != NULL);
         printf("refusal %u %s\n", (unsigned)number, text);
     }
-    CHECK(strstr(basilothyn_refusal_text(28), "no refusal") && strstr(basilothyn_refusal_text(UINT32_MAX), "no refusal"));
+    CHECK(strstr(basilothyn_refusal_text(28), "no refusal") != NULL);
+    CHECK(strstr(basilothyn_refusal_text(UINT32_MAX), "no refusal") != NULL);
 }
 
 /* ---- runs without bytes, and runs that overlap */
@@ -326,7 +327,8 @@ static void test_null_runs(void)
     CHECK(basilothyn_read_error(NULL, 0, 0).refusal == 1 && basilothyn_read_error(NULL, 0, SIZE_MAX).refusal == 1);
     CHECK(basilothyn_grant(t, f.store, sizeof f.store, NULL, 0).refusal == 1);
     CHECK(basilothyn_grant(t, NULL, 0, NULL, 0).refusal == 20 && basilothyn_revoke(t, NULL, 0).refusal == 20);
-    CHECK(basilothyn_return(t, NULL, 0, 0, 1, 3).refusal == 20 && basilothyn_recall(t, NULL, 0, 0, 1, 3).refusal == 20);
+    CHECK(basilothyn_return(t, NULL, 0, 0, 1, 3).refusal == 20);
+    CHECK(basilothyn_recall(t, NULL, 0, 0, 1, 3).refusal == 20);
     CHECK(basilothyn_locate_read(t, NULL, 0, 0, 1).refusal == 20);
     CHECK(basilothyn_locate_write(t, NULL, 0, 0, 1).refusal == 20);
     CHECK(basilothyn_bind(NULL, 0, 0, 0, NULL, 0, layout.at + 16, 15).refusal == 1);

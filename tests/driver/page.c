@@ -1,5 +1,5 @@
-/* Calls the C code of docs/DRIVER.md, which tests/driver/page puts into snippets.h, and compares what it answers with what
- * the page says. The layouts are captured ones; the values expected are those that Wireshark's dissector read. */
+/* Calls the C code of docs/DRIVER.md, which tests/driver/page puts into snippets.h, and compares what it answers with
+ * what the page says. The layouts are captured ones; the values expected are those that Wireshark's dissector read. */
 #include "basilothyn.h"
 
 #include <inttypes.h>

@@ -1,7 +1,7 @@
 /*
- * How much stack each function of the header takes, its arguments and its result counted: it is called on a thread whose
- * stack was painted, and the lowest byte that changed is looked for. Ends with 'N checks', or says which call takes more
- * than BASILOTHYN_STACK.
+ * How much stack each function of the header takes, its arguments and its result counted: it is called on a thread
+ * whose stack was painted, and the lowest byte that changed is looked for. Ends with 'N checks', or says which call
+ * takes more than BASILOTHYN_STACK.
  */
 #include "calls.h"
 
@@ -28,7 +28,10 @@ static struct basilothyn_write_result written;
 
 static void call_nothing(void) {}
 static void call_empty_table(void) { f.table = basilothyn_empty_table(); }
-static void call_grant(void) { event = basilothyn_grant(f.table, f.store, sizeof f.store, granted.at, granted.length); }
+static void call_grant(void)
+{
+    event = basilothyn_grant(f.table, f.store, sizeof f.store, granted.at, granted.length);
+}
 static void call_return(void) { event = basilothyn_return(event.table, f.store, sizeof f.store, 100, 1, 3); }
 static void call_recall(void) { event = basilothyn_recall(event.table, f.store, sizeof f.store, 50, 10, 3); }
 static void call_locate_read(void) { located = basilothyn_locate_read(event.table, f.store, sizeof f.store, 0, 1); }

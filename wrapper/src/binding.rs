@@ -25,7 +25,7 @@ pub struct Binding<'a> {
 }
 
 impl<'a> Layout<'a> {
-    /// Binds the data server of a mirror and a stripe to its device, in the first of its versions that the client speaks.
+    /// Binds the data server of a mirror and a stripe to its device, in the first version of it that the client speaks.
     pub fn bind(
         &self,
         mirror: MirrorNumber,

@@ -5,7 +5,7 @@ use std::fmt;
 
 macro_rules! refusals {
     ($($name:ident = $number:literal, $text:literal;)+) => {
-        /// Why a call refuses. Its number is that of `include/basilothyn.h`, and so are the words that it is shown with.
+        /// Why a call refuses. Its number and the words that it is shown with are those of `include/basilothyn.h`.
         #[derive(Clone, Copy, Debug, PartialEq, Eq, Hash)]
         pub enum Refusal {
             $(#[doc = $text] $name = $number,)+

@@ -43,8 +43,8 @@ pub struct Report {
     pub errors: Vec<IoError>,
 }
 
-/// The error that stands at a place of an `ff_layoutreturn4` body, whatever stands before and behind it. Any place may be
-/// asked for: what is no error there is refused.
+/// The error that stands at a place of an `ff_layoutreturn4` body, whatever stands before and behind it. Any place may
+/// be asked for: what is no error there is refused.
 pub fn read_error(body: &[u8], at: usize) -> Result<IoError, Refusal> {
     let read = raw::read_error(body, at);
     accepted(read.refusal)?;
