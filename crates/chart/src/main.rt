@@ -16,6 +16,7 @@ use layout::Summary;
 use layout4::Layout4;
 use layout4::Layout4Answer;
 use meaning::say_refused;
+use print::say;
 use segments::Table;
 
 // The offset that a chart begins at: the one asked for, else the layout's own.
@@ -24,6 +25,18 @@ fn first_offset(wish: Wish, own: u64) -> u64 {
         return own;
     }
     wish.first
+}
+
+// How many columns a chart has at most: as many as asked for, else enough that each server of a mirror has one.
+fn units_shown(wish: Wish, servers: u32) -> usize {
+    let each = servers as usize;
+    if wish.numbers == 2 {
+        return wish.units;
+    }
+    if wish.units < each {
+        return each;
+    }
+    wish.units
 }
 
 fn writes(iomode: Iomode) -> bool {
@@ -44,7 +57,12 @@ fn draw(
 ) {
     let iomode = layout.iomode;
     let from = first_offset(wish, layout.offset);
-    let columns = find_columns(t, store, writes(iomode), layout.offset, from, wish.units);
+    let units = units_shown(wish, summary.servers);
+    let columns = find_columns(t, store, writes(iomode), layout.offset, from, units);
+    if columns.count == 0 {
+        say(b"nothing to draw: no I/O reaches byte 18446744073709551615\n");
+        return;
+    }
     let s = Subject {
         layout,
         summary,

@@ -24,11 +24,17 @@ pub(crate) fn say_summary(s: Summary) {
     );
 }
 
-pub(crate) fn say_key(iomode: Iomode) {
+// What a box means.
+pub(crate) fn say_box_key(iomode: Iomode) {
     say(b"a box: the bytes from the offset above it, as many as stand below it, are ");
     match iomode {
         Iomode::Read => say(b"read from"),
         _ => say(b"written to"),
     }
-    say(b" that server; a column without a box: no right");
+    say(b" that server");
+}
+
+// What a column without one means.
+pub(crate) fn say_gap_key() {
+    say(b"a column without a box: no right");
 }

@@ -4,7 +4,8 @@ use crate::columns::Columns;
 use crate::columns::goes_to;
 use crate::columns::larger;
 use crate::columns::widest;
-use crate::facts::say_key;
+use crate::facts::say_box_key;
+use crate::facts::say_gap_key;
 use crate::facts::say_range;
 use crate::facts::say_summary;
 use crate::subject::Subject;
@@ -166,6 +167,7 @@ fn say_mirrors(bytes: &[u8], s: Subject, top: u64, width: u64) {
     }
 }
 
+// Of the lines here the longest has 700 pixels, in a wide font.
 fn say_head(s: Subject) {
     let layout = s.layout;
     let iomode = layout.iomode;
@@ -177,7 +179,9 @@ fn say_head(s: Subject) {
     say(b"</text>\n<text x=\"28\" y=\"98\">");
     say_summary(summary);
     say(b"</text>\n<text x=\"28\" y=\"120\">");
-    say_key(iomode);
+    say_box_key(iomode);
+    say(b"</text>\n<text x=\"28\" y=\"142\">");
+    say_gap_key();
     say(b"</text>\n");
 }
 

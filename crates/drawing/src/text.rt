@@ -5,7 +5,8 @@ use crate::columns::Column;
 use crate::columns::Columns;
 use crate::columns::goes_to;
 use crate::columns::widest;
-use crate::facts::say_key;
+use crate::facts::say_box_key;
+use crate::facts::say_gap_key;
 use crate::facts::say_range;
 use crate::facts::say_summary;
 use crate::subject::Subject;
@@ -96,7 +97,9 @@ fn say_head(s: Subject) {
     say(b"\n");
     say_summary(s.summary);
     say(b"\n");
-    say_key(iomode);
+    say_box_key(iomode);
+    say(b"; ");
+    say_gap_key();
     say(b"\n\n");
 }
 
