@@ -1,0 +1,15 @@
+"""What the refusal numbers mean, as the header says it."""
+
+import re
+
+from .build import TOP
+
+HEADER = TOP / "include" / "basilothyn.h"
+
+
+def meanings():
+    """By number."""
+    text = HEADER.read_text(encoding="utf-8")
+    listed = text[text.index("enum basilothyn_refusal {") :]
+    listed = listed[: listed.index("};")]
+    return {int(number): words for number, words in re.findall(r"= (\d+),?\s*/\* (.*?) \*/", listed)}
