@@ -1,4 +1,4 @@
-"""Pcap files made of TCP segments. Checksums are left 0."""
+"""Pcap and pcapng files made of TCP segments. Checksums are left 0."""
 
 import struct
 from typing import NamedTuple
@@ -88,3 +88,44 @@ def pcap_file(segments, order="<", magic=0xA1B2C3D4, link="Ethernet", ip=ipv4, s
         held = frame[:snap]
         parts.append(struct.pack(order + "IIII", time, 0, len(held), len(frame)) + held)
     return b"".join(parts)
+
+
+def block(order, kind, body):
+    """A block of a pcapng file: its type, its length in front and behind, its body padded."""
+    body += bytes(-len(body) % 4)
+    length = struct.pack(order + "I", 12 + len(body))
+    return struct.pack(order + "I", kind) + length + body + length
+
+
+def section(order="<"):
+    # Byte order, version 1.0, a length that is not given; an option (opt_comment) and the end of options.
+    head = struct.pack(order + "IHHq", 0x1A2B3C4D, 1, 0, -1)
+    return block(order, 0x0A0D0D0A, head + struct.pack(order + "HH4sHH", 1, 3, b"why", 0, 0))
+
+
+def interface(order="<", link="Ethernet", snap=0):
+    return block(order, 1, struct.pack(order + "HHI", LINKS[link][0], 0, snap))
+
+
+def enhanced_packet(order, number, frame, held, time=0):
+    return block(order, 6, struct.pack(order + "IIIII", number, 0, time, len(held), len(frame)) + held)
+
+
+def old_packet(order, number, frame, held, time=0):
+    return block(order, 2, struct.pack(order + "HHIIII", number, 0, 0, time, len(held), len(frame)) + held)
+
+
+def simple_packet(order, number, frame, held, time=0):
+    return block(order, 3, struct.pack(order + "I", len(frame)) + held)
+
+
+def packets(segments, order="<", link="Ethernet", ip=ipv4, snap=262144, packet=enhanced_packet, number=0):
+    frames = [LINKS[link][1](*ip(segment)) for segment in segments]
+    return b"".join(packet(order, number, frame, frame[:snap], time) for time, frame in enumerate(frames))
+
+
+def pcapng_file(segments, order="<", link="Ethernet", snap=262144, **others):
+    # Behind the interface stands a block that is not read: statistics of it.
+    statistics = block(order, 5, struct.pack(order + "III", 0, 0, 0))
+    head = section(order) + interface(order, link, snap) + statistics
+    return head + packets(segments, order, link, snap=snap, **others)

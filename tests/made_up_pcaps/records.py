@@ -34,6 +34,12 @@ def call(xid, *operations, flavor=0, program=NFS, minor=2):
     return mark(head + o(b"tag") + n(minor, len(operations)) + b"".join(operations))
 
 
+def callback(xid, *operations, program=0x40000000, version=1, minor=2):
+    """A call of the server to the client."""
+    head = n(xid, 0, 2, program, version, 1, 0, 0, 0, 0)
+    return mark(head + o(b"tag") + n(minor, 0, len(operations)) + b"".join(operations))
+
+
 def reply(xid, *results, status=0):
     return mark(n(xid, 1, 0, 0, 0, 0, status) + o(b"tag") + n(len(results)) + b"".join(results))
 
@@ -52,6 +58,14 @@ def layoutreturn(body, layout_type=4):
 
 def layoutreturn_result():
     return n(51, 0, 1) + STATEID
+
+
+def getdeviceinfo(device):
+    return n(47) + device + n(4, 4096, 0)
+
+
+def getdeviceinfo_result(body):
+    return n(47, 0, 4) + o(body) + n(0)
 
 
 def captured_directions(pcap):

@@ -1,5 +1,5 @@
 """A sample of the arguments and results of operations that captures/ has none of, field by field as RFC 8881,
-RFC 7862 and RFC 8276 give them."""
+RFC 7862 and RFC 8276 give them; then of callbacks."""
 
 from .records import STATEID, WHOLE_FILE, n, nn, o
 
@@ -111,4 +111,24 @@ SAMPLES = {
     "SETXATTR": (n(73, 0) + o() + o(b"value"), n(73, 0) + CHANGE),
     "LISTXATTRS": (n(74) + nn(0) + n(99), n(74, 0) + nn(2) + n(2) + o() + o(b"f") + n(1)),
     "REMOVEXATTR": (n(75) + o(), n(75, 0) + CHANGE),
+}
+
+RECALL = n(4, 2, 1)  # layout type, iomode, changed
+CALLBACK_SAMPLES = {
+    "CB_GETATTR": (n(3) + o() + BITMAP, n(3, 0) + ATTRIBUTES),
+    "CB_RECALL": (n(4) + STATEID + n(1) + o(), n(4, 0)),
+    "CB_NOTIFY": (n(6) + STATEID + o() + n(2) + BITMAP + o() + BITMAP + o(b"f"), n(6, 0)),
+    "CB_PUSH_DELEG": (n(7) + o() + n(1) + STATEID + n(0) + ACE, n(7, 0)),
+    "CB_RECALL_ANY": (n(8, 5) + BITMAP, n(8, 0)),
+    "CB_RECALLABLE_OBJ_AVAIL": (n(9, 5) + BITMAP, n(9, 0)),
+    "CB_RECALL_SLOT": (n(10, 5), n(10, 0)),
+    "CB_SEQUENCE": (
+        n(11) + SESSION + n(1, 2, 3, 0, 2) + SESSION + n(1, 5, 6) + SESSION + n(0),
+        n(11, 0) + SESSION + n(1, 2, 3, 4),
+    ),
+    "CB_WANTS_CANCELLED": (n(12, 0, 1), n(12, 0)),
+    "CB_NOTIFY_LOCK": (n(13) + o() + OWNER, n(13, 0)),
+    "CB_NOTIFY_DEVICEID": (n(14, 1) + BITMAP + o(b"devices"), n(14, 0)),
+    "CB_OFFLOAD": (n(15) + o() + STATEID + n(0) + WRITTEN, n(15, 0)),
+    "CB_OFFLOAD, failed": (n(15) + o() + STATEID + n(5) + nn(9), n(15, 0)),
 }

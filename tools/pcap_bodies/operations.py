@@ -1,5 +1,6 @@
 """The operations of NFS version 4.1 (RFC 8881), 4.2 (RFC 7862) and the extended attributes (RFC 8276):
-name, shape of the arguments, shape of the results behind a status of 0. Those of version 4.0 only are left out."""
+name, shape of the arguments, shape of the results behind a status of 0. Those of version 4.0 only are left out. Then those of
+callbacks, likewise."""
 
 from .xdr import array, linked_list, opaque, optional, union
 
@@ -133,6 +134,18 @@ OPERATIONS = {
     75: ("REMOVEXATTR", opaque, CHANGE_INFO),
 }
 
-
-def operation_name(number):
-    return OPERATIONS[number][0] if number in OPERATIONS else "unknown"
+CALLBACKS = {
+    3: ("CB_GETATTR", (opaque, BITMAP), ATTRIBUTES),
+    4: ("CB_RECALL", (STATEID, 4, opaque), NOTHING),
+    5: ("CB_LAYOUTRECALL", (12, union({1: (opaque, RANGE, STATEID), 2: 16, 3: NOTHING})), NOTHING),
+    6: ("CB_NOTIFY", (STATEID, opaque, array((BITMAP, opaque))), NOTHING),
+    7: ("CB_PUSH_DELEG", (opaque, DELEGATION), NOTHING),
+    8: ("CB_RECALL_ANY", (4, BITMAP), NOTHING),
+    9: ("CB_RECALLABLE_OBJ_AVAIL", (4, BITMAP), NOTHING),
+    10: ("CB_RECALL_SLOT", 4, NOTHING),
+    11: ("CB_SEQUENCE", (SESSION, 16, array((SESSION, array(8)))), (SESSION, 16)),
+    12: ("CB_WANTS_CANCELLED", 8, NOTHING),
+    13: ("CB_NOTIFY_LOCK", (opaque, OWNER), NOTHING),
+    14: ("CB_NOTIFY_DEVICEID", array((BITMAP, opaque)), NOTHING),
+    15: ("CB_OFFLOAD", (opaque, STATEID, union({0: WRITE_RESPONSE}, 8)), NOTHING),
+}

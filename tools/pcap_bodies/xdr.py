@@ -24,6 +24,15 @@ class Cursor:
         self.skip(4)
         return struct.unpack_from(">I", self.data, self.at - 4)[0]
 
+    def long_number(self):
+        self.skip(8)
+        return struct.unpack_from(">Q", self.data, self.at - 8)[0]
+
+    def fixed(self, length):
+        """Opaque data of a known length."""
+        self.skip(length)
+        return self.data[self.at - length : self.at]
+
     def opaque(self):
         """Variable opaque data, without length and padding."""
         length = self.number()

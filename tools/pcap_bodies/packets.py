@@ -1,20 +1,12 @@
-"""Pcap files: the TCP segment in each frame, through the link and IP headers."""
+"""The TCP segment in each frame, through the link and IP headers."""
 
 import ipaddress
-import mmap
 import struct
 from typing import NamedTuple
 
-# The first four bytes give the byte order; the nanosecond kinds differ only in times, which are not read.
-BYTE_ORDERS = {
-    b"\xd4\xc3\xb2\xa1": "<",
-    b"\xa1\xb2\xc3\xd4": ">",
-    b"\x4d\x3c\xb2\xa1": "<",
-    b"\xa1\xb2\x3c\x4d": ">",
-}
-PCAPNG = b"\x0a\x0d\x0d\x0a"
-FILE_HEADER = 24
-FRAME_HEADER = 16
+from .capture import Unreadable
+from .frames import read_frames
+
 HEADERS_READ = 512  # of a frame: link, IP and TCP headers are expected within these bytes
 
 IPV4, IPV6 = 0x0800, 0x86DD
@@ -23,10 +15,6 @@ TCP = 6
 FRAGMENT, AUTHENTICATION = 44, 51
 EXTENSION_HEADERS = (0, 43, FRAGMENT, AUTHENTICATION, 60, 135)
 SYN = 2
-
-
-class Unreadable(Exception):
-    """The file is not one that can be read; the text says why."""
 
 
 class Endpoint(NamedTuple):
@@ -46,20 +34,7 @@ class Segment(NamedTuple):
     syn: bool
     start: int  # of the payload, in the file
     end: int
-
-
-def open_capture(path):
-    """The file's bytes, mapped."""
-    with open(path, "rb") as file:
-        magic = file.read(4)
-        if magic == PCAPNG:
-            raise Unreadable("this is a pcapng file; make a pcap file of it: editcap -F pcap IN OUT")
-        if magic not in BYTE_ORDERS:
-            raise Unreadable("this is not a pcap file")
-        capture = mmap.mmap(file.fileno(), 0, access=mmap.ACCESS_READ)
-    if len(capture) < FILE_HEADER:
-        raise Unreadable("the file ends within its header")
-    return capture
+    missing: int  # bytes of the payload that the file does not have
 
 
 def short_at(head, at):
@@ -105,49 +80,69 @@ def ipv6_parts(head, at, frame_length):
     return (source, destination, at, end) if following == TCP else None
 
 
-def segment_in(head, at, frame, start, length):
+def segment_in(head, at, frame):
     """The TCP segment in the IP packet at `at`, or None."""
     parts = {4: ipv4_parts, 6: ipv6_parts}.get(head[at] >> 4)
-    parts = parts and parts(head, at, length)
+    parts = parts and parts(head, at, max(frame.length, frame.original))
     if not parts:
         return None
     source, destination, tcp, packet_end = parts
     source_port, destination_port, sequence = struct.unpack_from(">HHI", head, tcp)
     payload = tcp + (head[tcp + 12] >> 4) * 4
     # Behind the packet there may be padding; before its end the frame may be cut off.
-    payload_end = max(payload, min(packet_end, length))
+    payload_end = max(payload, min(packet_end, frame.length))
     return Segment(
-        frame,
+        frame.number,
         Endpoint(source, source_port),
         Endpoint(destination, destination_port),
         sequence,
         bool(head[tcp + 13] & SYN),
-        start + payload,
-        start + payload_end,
+        frame.start + payload,
+        frame.start + payload_end,
+        max(0, packet_end - payload_end),
     )
 
 
-def read_segments(capture, say):
-    """Yields the TCP segments, frame by frame; frames count from 1."""
-    order = BYTE_ORDERS[capture[:4]]
-    link_type = struct.unpack_from(order + "I", capture, 20)[0] & 0xFFFF
-    if link_type not in LINK_TYPES:
-        raise Unreadable(f"the link type {link_type} is not one that is read here")
-    ip_start = LINK_TYPES[link_type]
-    frame, at = 0, FILE_HEADER
-    while at < len(capture):
-        frame += 1
-        start = at + FRAME_HEADER
-        length = struct.unpack_from(order + "I", capture, at + 8)[0] if start <= len(capture) else 0
-        if start + length > len(capture):
-            say(f"frame {frame}: the file ends within it")
-            return
-        head = capture[start : start + min(length, HEADERS_READ)]
+class SegmentReader:
+    """Reads the segments of a capture, and says which frames it could not read whole."""
+
+    def __init__(self, capture, say):
+        self.capture, self.say = capture, say
+        self.cut = []  # frames that were cut short when captured
+        self.known = 0  # frames of a link type that is read
+        self.unknown = {}  # how many frames of each other link type there are
+
+    def read(self):
+        """Yields the TCP segments, frame by frame."""
+        for frame in read_frames(self.capture, self.say):
+            if frame.link_type not in LINK_TYPES:
+                self.unknown[frame.link_type] = self.unknown.get(frame.link_type, 0) + 1
+                continue
+            self.known += 1
+            segment = self.segment_of(frame)
+            if segment:
+                yield segment
+        self.say_losses()
+
+    def segment_of(self, frame):
+        head = self.capture[frame.start : frame.start + min(frame.length, HEADERS_READ)]
         try:
-            ip = ip_start(head)
-            segment = None if ip is None else segment_in(head, ip, frame, start, length)
+            ip = LINK_TYPES[frame.link_type](head)
+            segment = None if ip is None else segment_in(head, ip, frame)
         except (struct.error, IndexError):
             segment = None  # too short for its headers
-        if segment:
-            yield segment
-        at = start + length
+            if frame.length < frame.original:
+                self.cut.append(frame)
+        if segment and segment.missing:
+            self.cut.append(frame)
+        return segment
+
+    def say_losses(self):
+        for link_type, frames in self.unknown.items():
+            if not self.known:
+                raise Unreadable(f"the link type {link_type} is not one that is read here")
+            self.say(f"{frames} frames of link type {link_type}, which is not read here, are passed over")
+        if self.cut:
+            first, most = self.cut[0].number, max(frame.length for frame in self.cut)
+            frames = f"{len(self.cut)} frames, the first being frame {first}, were cut short when they were captured"
+            self.say(f"{frames}, to at most {most} bytes, and what they carried is lost; capture whole frames (tcpdump -s 0)")
