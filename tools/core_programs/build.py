@@ -1,19 +1,23 @@
 """Proves and builds what a user runs, by `rt`. Its output is shown only where it fails; while it proves, a line says how far it is."""
 
 import fcntl
+import os
 import re
+import signal
 import subprocess
 import sys
 import tempfile
 import time
 from pathlib import Path
 
+from .words import say
+
 TOP = Path(__file__).resolve().parents[2]
 LOGS = TOP / "target" / "log"
 PROGRAMS = ("chart", "answers")
 ARCHIVE = "driver"
 POLL = 0.5  # seconds
-UNCHANGED = 1  # second: no crate takes so long to be found unchanged
+UNCHANGED = 3  # seconds: no crate takes so long to be found unchanged
 
 
 class NotBuilt(Exception):
@@ -74,19 +78,38 @@ def run_rt(words, poll):
     """Runs rt; `poll` is called from time to time."""
     with tempfile.TemporaryFile() as output:
         try:
-            rt = subprocess.Popen(["rt", *words], cwd=TOP, stdin=subprocess.DEVNULL, stdout=output, stderr=output)
+            # A session of its own: the provers that it starts can be ended with it.
+            to = {"stdin": subprocess.DEVNULL, "stdout": output, "stderr": output}
+            rt = subprocess.Popen(["rt", *words], cwd=TOP, start_new_session=True, **to)
         except OSError as reason:
             raise NotBuilt(f"the Rattle toolchain cannot be run: rt: {reason.strerror}") from None
-        while True:
-            try:
-                status = rt.wait(POLL)
-                break
-            except subprocess.TimeoutExpired:
-                poll()
-        if status:
+        if wait_for(rt, poll):
             output.seek(0)
             said = output.read().decode("utf-8", "replace").rstrip()
             raise NotBuilt(f"{said}\nrt {' '.join(words)} failed, with the output above")
+
+
+def wait_for(rt, poll):
+    """Its exit status. Whoever interrupts this ends rt too."""
+    try:
+        while True:
+            try:
+                return rt.wait(POLL)
+            except subprocess.TimeoutExpired:
+                poll()
+    except KeyboardInterrupt:
+        os.killpg(rt.pid, signal.SIGTERM)
+        rt.wait()
+        raise
+
+
+def wait_for_others(lock):
+    """Two at once would prove the same crates, into the same files."""
+    try:
+        fcntl.flock(lock, fcntl.LOCK_EX | fcntl.LOCK_NB)
+    except BlockingIOError:
+        say("another build is under way; waiting for it")
+        fcntl.flock(lock, fcntl.LOCK_EX)
 
 
 def build(*names):
@@ -96,12 +119,14 @@ def build(*names):
     proved = programs + (crates_used()[ARCHIVE] if ARCHIVE in names else [])
     progress = Progress(crates_below(names), time.time())
     with open(TOP / "crates.txt", encoding="utf-8") as lock:
-        fcntl.flock(lock, fcntl.LOCK_EX)  # two at once would prove the same crates, into the same files
         try:
+            wait_for_others(lock)
             run_rt(["check", *sorted(set(proved) & set(progress.crates))], progress.say_under_way)
             if ARCHIVE in names:
                 last = f"proving {len(progress.crates)} of {len(progress.crates)}: {ARCHIVE}"
                 run_rt(["staticlib", ARCHIVE], lambda: progress.say(last))
+        except KeyboardInterrupt:
+            raise NotBuilt("interrupted") from None
         finally:
             progress.clear()
 
