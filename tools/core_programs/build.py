@@ -1,4 +1,4 @@
-"""Proves and builds what a user runs, by `rt`. Its output is shown only where it fails; while it proves, a line says how far it is."""
+"""Proves and builds what a user runs, by `rt`. Its output is shown only where it fails; a line says how far it is."""
 
 import fcntl
 import os

@@ -8,8 +8,8 @@ HEADER = TOP / "include" / "basilothyn.h"
 
 
 def meanings():
-    """By number."""
+    """By number; 0 is no refusal."""
     text = HEADER.read_text(encoding="utf-8")
     listed = text[text.index("enum basilothyn_refusal {") :]
     listed = listed[: listed.index("};")]
-    return {int(number): words for number, words in re.findall(r"= (\d+),?\s*/\* (.*?) \*/", listed)}
+    return {int(number): words for number, words in re.findall(r"= ([1-9]\d*),?\s*/\* (.*?) \*/", listed)}

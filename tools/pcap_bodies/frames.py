@@ -5,7 +5,7 @@ from typing import NamedTuple
 
 from .capture import Unreadable
 
-# The first four bytes of a pcap file give the byte order; the nanosecond kinds differ only in times, which are not read.
+# A pcap file's first four bytes give the byte order; the nanosecond kinds differ only in times, which are not read.
 BYTE_ORDERS = {
     b"\xd4\xc3\xb2\xa1": "<",
     b"\xa1\xb2\xc3\xd4": ">",

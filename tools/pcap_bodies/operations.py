@@ -1,6 +1,6 @@
 """The operations of NFS version 4.1 (RFC 8881), 4.2 (RFC 7862) and the extended attributes (RFC 8276):
-name, shape of the arguments, shape of the results behind a status of 0. Those of version 4.0 only are left out. Then those of
-callbacks, likewise."""
+name, shape of the arguments, shape of the results behind a status of 0. Those of version 4.0 only are left out. Then
+those of callbacks, likewise."""
 
 from .xdr import array, linked_list, opaque, optional, union
 

@@ -145,4 +145,4 @@ class SegmentReader:
         if self.cut:
             first, most = self.cut[0].number, max(frame.length for frame in self.cut)
             frames = f"{len(self.cut)} frames, the first being frame {first}, were cut short when they were captured"
-            self.say(f"{frames}, to at most {most} bytes, and what they carried is lost; capture whole frames (tcpdump -s 0)")
+            self.say(f"{frames}, to at most {most} bytes; to have them whole, capture with tcpdump -s 0")

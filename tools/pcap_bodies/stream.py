@@ -8,8 +8,8 @@ from .tcp import Held, Stream
 from .xdr import Unfollowable
 
 NFS_NUMBER, NFS_VERSION, COMPOUND = 100003, 4, 1
-# The client chooses the number that it is called back under, among those that are nobody's own (RFC 5531). The version is
-# 1 in the definitions, 4 in the text (RFC 8881).
+# The client chooses the number that it is called back under, among those that are nobody's own (RFC 5531). The version
+# is 1 in the definitions, 4 in the text (RFC 8881).
 CALLBACK_NUMBERS, CALLBACK_VERSIONS = range(0x40000000, 0x60000000), (1, 4)
 FLEX_FILES = 4
 TYPED = ("layout4", "cb_layoutrecall")  # the bodies that say their layout type themselves
