@@ -112,7 +112,8 @@ def enhanced_packet(order, number, frame, held, time=0):
 
 
 def old_packet(order, number, frame, held, time=0):
-    return block(order, 2, struct.pack(order + "HHIIII", number, 0, 0, time, len(held), len(frame)) + held)
+    drops = 0xFFFF  # how many frames were lost before is not known
+    return block(order, 2, struct.pack(order + "HHIIII", number, drops, 0, time, len(held), len(frame)) + held)
 
 
 def simple_packet(order, number, frame, held, time=0):
