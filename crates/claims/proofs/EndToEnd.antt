@@ -1,40 +1,63 @@
 -- Where an I/O goes after a list of events, by the rights that the accepted ones give; and that no write goes where a recall stands unanswered.
-use Prim.Native.Nat.{ℕ, _+_, _-_, _≤_}
+use Prim.Native.Nat.{ℕ, zero, suc, _+_, _-_, _≤_, _<_}
 use mathlib.Core.Path.{_≡_, refl, sym, ap, ap₂, _∙_}
 use mathlib.Core.Bool.{Bool, true, false, _&&_, false≢true}
 use mathlib.Core.List.{List, [], _∷_, _++_}
 use native.Mathlib.Omega.{arith}
 use borrow.Author.Tests.{leb-true}
 use lib.Dec.{leb}
-use lib.ListN.{replicate}
+use lib.ListN.{length, getD, replicate}
 use Rattle.base.specs.Answer.{Answer, accepted, refused, given, pick}
 use Rattle.base.specs.Lists.{Each}
 use Rattle.base.specs.Ranges.{lastByte, largestSum, requestLast}
 use Rattle.base.specs.declared.iomode.Iomode.the-variants.{ReadWrite}
 use Rattle.base.proofs.AnswerLaws.{gave, never-accepted, same-answer}
 use Rattle.segments.specs.declared.Table.{Table}
-use Rattle.segments.specs.Segments.{Mode, READ, RW, emptyTable}
-use Rattle.store.specs.Store.{Body}
+use Rattle.segments.specs.declared.Right.the-variants.{None}
+use Rattle.segments.specs.declared.Segment.{Segment}
+use Rattle.segments.specs.Segments.{Mode, READ, RW, blank, emptyTable, listIn, rightAt}
+use Rattle.segments.proofs.Canon.{Ord, at-in, at-past, canon-ord}
+use Rattle.store.specs.Store.{Body, bodyIn, slotAt}
 use Rattle.reference.specs.Model.{ByteRight, none, granted, recalled, Deed, grants, returns, recalls, revokes, Event, Order, afterAt, covers, rightAfter}
 use Rattle.reference.specs.Claim.{Fits, acceptedOf, answered, rightGiven, rightIn, storeLeft, tableLeft}
+use Rattle.reference.proofs.SoundParts.{listed, sounds}
+use Rattle.reference.proofs.FromSound.{in-order-canon}
 use Rattle.events.specs.Events.{called}
 use Rattle.agreement.proofs.Demand.{calls-meet-demand-3}
 use Rattle.agreement.proofs.Unchanged.{sound-after}
-use Rattle.route.specs.Routes.{routed}
+use Rattle.route.specs.Routes.{iomodeFor, routed}
 use Rattle.route.specs.Rights.{ServedUnder, byGrant, servedByRights, servedOf}
 use Rattle.route.specs.declared.piece.Piece.{Piece}
-use Rattle.route.proofs.RightsServed.{routed-by-rights}
+use Rattle.route.proofs.PieceLaws.{by-parts, piece-in-request, piece-in-segment}
+use Rattle.route.proofs.RightsServed.{granted-under, routed-by-rights}
 use Rattle.claims.specs.Statements.{grantsByte, isGrant}
 
--- a request that is in order starts within the file
-in-file : (offset len last : ℕ) → requestLast offset len ≡ accepted last → offset ≤ lastByte
+-- a request that is in order lies within the file
+in-file : (offset len last : ℕ) → requestLast offset len ≡ accepted last → offset + len ≤ lastByte
 unfolding requestLast pick
 in-file offset len last e = go (leb 1 len) (leb (offset + len) largestSum) refl e
   where
-    go : (a b : Bool) → leb (offset + len) largestSum ≡ b → pick a (pick b (accepted (offset + len - 1)) (refused 5)) (refused 5) ≡ accepted last → offset ≤ lastByte
+    go : (a b : Bool) → leb (offset + len) largestSum ≡ b → pick a (pick b (accepted (offset + len - 1)) (refused 5)) (refused 5) ≡ accepted last → offset + len ≤ lastByte
     go true true h k = let q : offset + len ≤ largestSum = leb-true (offset + len) largestSum h in omega arith
     go true false h k = never-accepted 5 last k
     go false b h k = never-accepted 5 last k
+
+-- ---- the segment at a place of a rising list shows its right at each of its bytes
+
+place-above : (lo : ℕ) (l : List Segment) (k : ℕ) → Ord lo l → k < length l → lo ≤ getD l k blank .first
+unfolding Ord
+place-above lo [] k o h = absurd (omega arith)
+place-above lo (s ∷ l) zero o h = o .0
+place-above lo (s ∷ l) (suc k) o h = let r = place-above (suc (s .last)) l k (o .3) (omega arith) in let e = o .1 in omega arith
+
+place-shows : (lo : ℕ) (l : List Segment) (k x : ℕ) → Ord lo l → k < length l → getD l k blank .first ≤ x → x ≤ getD l k blank .last
+    → rightAt l x ≡ getD l k blank .right
+unfolding Ord
+place-shows lo [] k x o h a b = absurd (omega arith)
+place-shows lo (s ∷ l) zero x o h a b = at-in s l x a b
+place-shows lo (s ∷ l) (suc k) x o h a b =
+    let r = place-above (suc (s .last)) l k (o .3) (omega arith) in
+    at-past s l x (omega arith) ∙ place-shows (suc (s .last)) l k x (o .3) (omega arith) a b
 
 module _ (es : List Event) (f : Each Fits es) where
   abbrev T : Table
@@ -57,8 +80,32 @@ module _ (es : List Event) (f : Each Fits es) where
       go : (a : Answer ℕ) → requestLast offset len ≡ a
           → given a (λ last. servedByRights write (rightIn T S READ offset) (rightIn T S RW offset))
           ≡ given a (λ last. servedByRights write (rightGiven os READ offset none) (rightGiven os RW offset none))
-      go (accepted last) e = ap₂ (servedByRights write) (right READ (in-file offset len last e)) (right RW (in-file offset len last e))
+      go (accepted last) e =
+          let h : offset ≤ lastByte = omega (arith, in-file offset len last e) in
+          ap₂ (servedByRights write) (right READ h) (right RW h)
       go (refused n) e = refl
+
+  -- each byte of an answered piece has the right of the first, in the iomode and under the body of the piece
+  pub bytes-by-events : (write : Bool) (offset len : ℕ) (p : Piece) → routed write T S offset len ≡ accepted p
+      → (m : Mode) × (p .iomode ≡ iomodeFor m) × (write ≡ true → m ≡ RW)
+      × ((x : ℕ) → offset ≤ x → x < offset + p .length → rightGiven os m x none ≡ granted (bodyIn (slotAt S (p .slot .0))))
+  bytes-by-events write offset len p e =
+      let h = piece-in-segment write T S offset len p e in
+      let q = piece-in-request write T S offset len p e in
+      let r = by-parts write T S offset len p e in
+      let n = in-file offset len (r .last) (r .range) in
+      let w = sounds T S (sound-after es f) in
+      let o = canon-ord 0 None (listIn T (h .mode)) (in-order-canon (listIn T (h .mode)) (listed T S w (h .mode) .order)) in (
+        h .mode,
+        h .iomode,
+        h .in-rw,
+        λ x a b.
+            let i : x ≤ getD (listIn T (h .mode)) (h .place) blank .last = omega (arith, h .last, q .0, b) in
+            let k : x ≤ lastByte = omega (arith, n, q .1, b) in
+            let j : getD (listIn T (h .mode)) (h .place) blank .first ≤ x = omega (arith, h .first, a) in
+            sym (calls-meet-demand-3 es f .rights (h .mode) x k)
+            ∙ granted-under T S (sound-after es f) (h .mode) x (p .slot) (place-shows 0 (listIn T (h .mode)) (h .place) x o (h .placed) j i ∙ h .right),
+      )
 
 -- ---- no write after a recall
 
@@ -97,19 +144,12 @@ module _ (m : Mode) (x : ℕ) where
   recalled-since [] o after r d c h = later-events after (afterAt o m x r) h (rw (c, d) (after-recall r))
   recalled-since (p ∷ before) o after r d c h = recalled-since before o after (afterAt p m x r) d c h
 
-served-granted : (r : ByteRight) (v : ServedUnder) → byGrant ReadWrite r ≡ accepted v → r ≡ granted (v .body)
-served-granted none v e = never-accepted 17 v e
-served-granted (granted b) v e = ap granted (let w : record { iomode = ReadWrite; body = b } ≡ v = same-answer e in ap (λ (u : ServedUnder). u .body) w)
-served-granted (recalled b) v e = never-accepted 17 v e
-
 pub write-after-recall : (es : List Event) → Each Fits es → (before : List Order) (o : Order) (after : List Order)
     → acceptedOf es (answered called es emptyTable (replicate 32768 0)) ≡ before ++ (o ∷ after) → o .deed ≡ recalls
-    → (offset len : ℕ) → covers o RW offset ≡ true → Each (λ o. grantsByte RW offset o ≡ false) after → (p : Piece)
-    → routed true (tableLeft called es emptyTable (replicate 32768 0)) (storeLeft called es emptyTable (replicate 32768 0)) offset len ≡ accepted p → ⊥
-unfolding given
-write-after-recall es f before o after e d offset len c h p k =
-    let S = storeLeft called es emptyTable (replicate 32768 0) in
-    let q : given (requestLast offset len) (λ last. byGrant ReadWrite (rightGiven (os es f) RW offset none)) ≡ accepted (servedOf S p) =
-    sym (io-by-events es f true offset len) ∙ ap (λ (a : Answer Piece). given a (λ p. accepted (servedOf S p))) k in
-    let r = gave (requestLast offset len) (λ last. byGrant ReadWrite (rightGiven (os es f) RW offset none)) (servedOf S p) q in
-    recalled-since RW offset before o after none d c h _ (ap (λ (l : List Order). rightGiven l RW offset none) (sym e) ∙ served-granted _ _ (r .rest))
+    → (x : ℕ) → covers o RW x ≡ true → Each (λ o. grantsByte RW x o ≡ false) after → (offset len : ℕ) (p : Piece)
+    → routed true (tableLeft called es emptyTable (replicate 32768 0)) (storeLeft called es emptyTable (replicate 32768 0)) offset len ≡ accepted p
+    → offset ≤ x → x < offset + p .length → ⊥
+write-after-recall es f before o after e d x c h offset len p k a b =
+    let w = bytes-by-events es f true offset len p k in
+    let r : rightGiven (os es f) RW x none ≡ _ = ap (λ (m : Mode). rightGiven (os es f) m x none) (sym (w .2 refl)) ∙ w .3 x a b in
+    recalled-since RW x before o after none d c h _ (ap (λ (l : List Order). rightGiven l RW x none) (sym e) ∙ r)

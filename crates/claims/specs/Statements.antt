@@ -1,6 +1,7 @@
 -- What the claims say of a refusal's number, of a place in a layout body, of a piece of an I/O in a table, of the mirror named, and of a grant of a byte.
 use Prim.Native.Nat.{ℕ, _+_, _-_, _≤_, _<_}
 use mathlib.Core.Path.{_≡_}
+use mathlib.Core.Logic.{_⊎_}
 use mathlib.Core.List.{List, [], _∷_}
 use mathlib.Core.Bool.{Bool, true, false, _&&_, _||_}
 use lib.Dec.{eqb}
@@ -13,7 +14,7 @@ use Rattle.segments.specs.declared.Right.the-variants.{Granted}
 use Rattle.segments.specs.declared.Table.{Table}
 use Rattle.segments.specs.Segments.{Mode, RW, blank, listIn}
 use Rattle.reference.specs.Model.{Deed, grants, returns, recalls, revokes, Order, covers}
-use Rattle.route.specs.Routes.{iomodeFor}
+use Rattle.route.specs.Routes.{FillsUnit, iomodeFor}
 use Rattle.route.specs.declared.piece.Piece.{Piece}
 
 -- whether a number is in a list
@@ -31,8 +32,9 @@ pub record ServerStands (s : List ℕ) (at : ℕ) : Type 0 where
   pub stateid : server .stateid ≡ at + 20
   pub handles : server .handles ≡ beValue (bytesFrom 4 s (at + 36))
 
--- a piece lies in one segment of the iomode that it names, granted under the slot that it names; for a write that iomode is RW
-pub record PieceStands (write : Bool) (t : Table) (offset : ℕ) (p : Piece) : Type 0 where
+-- a piece lies in one segment of the iomode that it names, granted under the slot that it names; for a write that iomode is RW. It ends with the
+-- request, with that segment, or with its stripe unit
+pub record PieceStands (write : Bool) (t : Table) (store : List ℕ) (offset len : ℕ) (p : Piece) : Type 0 where
   pub mode : Mode
   pub named : p .iomode ≡ iomodeFor mode
   pub place : ℕ
@@ -40,6 +42,7 @@ pub record PieceStands (write : Bool) (t : Table) (offset : ℕ) (p : Piece) : T
   pub first : getD (listIn t mode) place blank .first ≤ offset
   pub last : offset + p .length - 1 ≤ getD (listIn t mode) place blank .last
   pub right : getD (listIn t mode) place blank .right ≡ Granted (p .slot)
+  pub ends : (p .length ≡ len) ⊎ ((getD (listIn t mode) place blank .last ≡ offset + p .length - 1) ⊎ FillsUnit store offset p)
   pub in-rw : write ≡ true → mode ≡ RW
 
 -- mirror b of the first n has the highest efficiency of them, and the lowest number of those that have it
@@ -48,12 +51,12 @@ pub record BestOf (efficiency : ℕ → ℕ) (n b : ℕ) : Type 0 where
   pub highest : (m : ℕ) → m < n → efficiency m ≤ efficiency b
   pub lowest : (m : ℕ) → m < b → efficiency m < efficiency b
 
--- whether an accepted event grants byte x in iomode m
 abbrev pub isGrant : Deed → Bool
 isGrant (grants b) = true
 isGrant returns = false
 isGrant recalls = false
 isGrant revokes = false
 
+-- whether an accepted event grants byte x in iomode m
 abbrev pub grantsByte : Mode → ℕ → Order → Bool
 grantsByte m x o = isGrant (o .deed) && covers o m x

@@ -5,7 +5,7 @@
 // contracts themselves: no public function has a `requires`, each returns, and its one `ensures` is an equation with a definition in specs/, which
 // quotes the scope paper. `layoutBody` is what `layout::read_layout` answers, `layout4` `layout4::read_layout4`, `deviceBody` `device::read_device`,
 // `boundTo` `binding::bind`, `reportBody` `report::read_reports`, `reportsWritten` both writers of reports, `called` the four events, `routed`
-// `route::locate`, `calledOn` the exported events.
+// `route::locate`, `calledOn` the exported events, `routedOn` the exported lookups.
 //
 // `accepted v` is an answer with its value, `refused n` a refusal with the scope paper's number, and `n ≡ 0 → ⊥` says that n is not 0.
 ghost use Prim.Native.Nat.{ℕ, _+_, _-_, _*_, _/_, _%_, _^_, _<_, _≤_};
@@ -30,12 +30,12 @@ ghost use Rattle.report_write.specs.Writing.{ErrorRecord, counts, outputAfter, 
 ghost use Rattle.base.specs.Lists.{Each};
 ghost use Rattle.base.specs.Ranges.{lastByte, requestLast, toTheEnd};
 ghost use Rattle.segments.specs.declared.Table.{Table};
-ghost use Rattle.segments.specs.Segments.{READ, RW, emptyTable, listIn, listOf, rightAt};
+ghost use Rattle.segments.specs.Segments.{Mode, READ, RW, emptyTable, listIn, listOf, rightAt};
 ghost use Rattle.segments.specs.declared.Right.the-variants.{Granted};
 ghost use Rattle.route.specs.declared.piece.Piece.{Piece};
 ghost use Rattle.route.specs.Mirrors.{efficiencyOf};
 ghost use Rattle.route.specs.Rights.{servedByRights, servedOf};
-ghost use Rattle.route.specs.Routes.{layoutIn, routed};
+ghost use Rattle.route.specs.Routes.{iomodeFor, layoutIn, routed};
 ghost use Rattle.store.specs.Store.{bodyIn, slotAt};
 ghost use Rattle.reference.specs.AnyTable.{EndsBy, OfModel, Typed, leftBy, modelOf};
 ghost use Rattle.reference.specs.Claim.{Calls, Demand3, Fits, acceptedOf, answered, rightGiven, storeLeft, tableLeft};
@@ -43,12 +43,12 @@ ghost use Rattle.reference.specs.Cases as cases;
 ghost use Rattle.reference.specs.Cases.{bodyOf, grantBytes};
 ghost use Rattle.reference.specs.StandIns.{changesNothing, firstOnly, refusesAll};
 ghost use Rattle.reference.specs.Sound.{isAccepted, sound};
-ghost use Rattle.reference.specs.Model.{Event, Grant, Order, Recall, Return, Revoke, covers, none, recalls};
+ghost use Rattle.reference.specs.Model.{Event, Grant, Order, Recall, Return, Revoke, covers, granted, none, recalls};
 ghost use Rattle.events.specs.Events.{called};
 ghost use Rattle.examples.specs.Examples.{Holds, examples};
 ghost use Rattle.record.specs.Records.{recordOf, tableIn};
 ghost use Rattle.record.specs.declared.types.TableRecord.{TableRecord};
-ghost use Rattle.driver.specs.Calls.{calledOn, recorded};
+ghost use Rattle.driver.specs.Calls.{calledOn, locateResult, recorded, routedOn};
 ghost use Rattle.driver.specs.Lists.{Demand3OnRecords};
 ghost use Rattle.claims.specs.Statements.{BestOf, PieceStands, ServerStands, grantsByte, isOneOf};
 
@@ -108,6 +108,18 @@ pub fn events_refuse_as_listed()
         → isOneOf (called Revoke t store .answer) (0 ∷ 20 ∷ []) ≡ true) ⌝ }
 {}
 
+// 20: "table or shelf is unsound", first in the order of events and of requests, whatever else is wrong; a record that is no table is unsound.
+pub fn unsound_is_20()
+    ensures { λ r. ⌜ ((e : Event) (t : Table) (store : List ℕ) → sound t store ≡ false
+        → called e t store ≡ record { answer = 20; table = t; store = store })
+        × ((write : Bool) (t : Table) (store : List ℕ) (offset len : ℕ) → sound t store ≡ false
+        → routed write t store offset len ≡ refused 20)
+        × ((e : Event) (given : TableRecord) (store : List ℕ) (n : ℕ) → tableIn given ≡ refused n
+        → calledOn e given store ≡ record { refusal = 20; table = given; store = store })
+        × ((write : Bool) (given : TableRecord) (store : List ℕ) (offset len n : ℕ) → tableIn given ≡ refused n
+        → routedOn write given store offset len ≡ locateResult (refused 20)) ⌝ }
+{}
+
 // "Nothing else is refused": an I/O request is refused with 20, 5 or 17. It reads the layout body of a granted segment, and that never fails.
 pub fn requests_refuse_as_listed()
     ensures { λ r. ⌜ ((write : Bool) (t : Table) (store : List ℕ) (offset len n : ℕ) → routed write t store offset len ≡ refused n
@@ -138,7 +150,7 @@ pub fn starts_are_servers()
 
 // Demand 3, undivided, of the calls that grant, layout_return, recall and revoke are proved to be (the `ensures` in events/src/grants.rt and
 // ranges.rt): after every list of events from the empty table and the zeroed store their answers, table and store are those of the reference model,
-// which the scope paper calls the ledger (reference/specs/Model.antt). `Agreed` in reference/specs/Claim.antt has one field for each sentence.
+// which the scope paper calls the ledger (reference/specs/Model.antt). `Agreed` in reference/specs/Claim.antt has each sentence as a field or two.
 pub fn demand_3()
     ensures { λ r. ⌜ Demand3 called ⌝ }
 {}
@@ -155,14 +167,25 @@ pub fn io_goes_by_the_rights_that_events_give()
         (rightGiven (acceptedOf es (answered called es emptyTable (replicate 32768 0))) RW offset none))) ⌝ }
 {}
 
+// And not of the first byte alone: each byte of an answered piece is granted by the accepted events, in the iomode and under the body of the piece; for a
+// write that iomode is RW.
+pub fn each_byte_of_a_piece_is_granted()
+    ensures { λ r. ⌜ ((es : List Event) → Each Fits es → (write : Bool) (offset len : ℕ) (p : Piece)
+        → routed write (tableLeft called es emptyTable (replicate 32768 0)) (storeLeft called es emptyTable (replicate 32768 0)) offset len ≡ accepted p
+        → (m : Mode) × (p .iomode ≡ iomodeFor m) × (write ≡ true → m ≡ RW)
+        × ((x : ℕ) → offset ≤ x → x < offset + p .length
+        → rightGiven (acceptedOf es (answered called es emptyTable (replicate 32768 0))) m x none
+        ≡ granted (bodyIn (slotAt (storeLeft called es emptyTable (replicate 32768 0)) (p .slot .0))))) ⌝ }
+{}
+
 // The customer's complaint, "a table that has written after a recall": where a recall that covers a byte in RW is among the accepted events, and no grant
-// that covers it there comes after, no write is answered at that byte.
+// that covers it there comes after, that byte is in no piece that is answered to a write.
 pub fn no_write_after_a_recall()
     ensures { λ r. ⌜ ((es : List Event) → Each Fits es → (before : List Order) (o : Order) (after : List Order)
         → acceptedOf es (answered called es emptyTable (replicate 32768 0)) ≡ before ++ (o ∷ after) → o .deed ≡ recalls
-        → (offset len : ℕ) → covers o RW offset ≡ true → Each (λ o. grantsByte RW offset o ≡ false) after → (p : Piece)
+        → (x : ℕ) → covers o RW x ≡ true → Each (λ o. grantsByte RW x o ≡ false) after → (offset len : ℕ) (p : Piece)
         → routed true (tableLeft called es emptyTable (replicate 32768 0)) (storeLeft called es emptyTable (replicate 32768 0)) offset len ≡ accepted p
-        → ⊥) ⌝ }
+        → offset ≤ x → x < offset + p .length → ⊥) ⌝ }
 {}
 
 // Demand 3 of the functions that C links: over every list of calls, each handed the record and the store that the last one left.
@@ -239,10 +262,11 @@ pub fn pieces_lie_in_request_and_unit()
         → offset / l .summary .unit ≡ (offset + p .length - 1) / l .summary .unit)) ⌝ }
 {}
 
-// An answered piece lies in one segment of the iomode that it names, granted under the slot that it names; for a write that iomode is RW.
+// An answered piece lies in one segment of the iomode that it names, granted under the slot that it names; for a write that iomode is RW. "The piece answered
+// is the shortest of the request, the rest of that segment, and, with more than one server, the rest of the stripe unit": it ends with one of these.
 pub fn pieces_lie_in_granted_segments()
     ensures { λ r. ⌜ ((write : Bool) (t : Table) (store : List ℕ) (offset len : ℕ) (p : Piece) → routed write t store offset len ≡ accepted p
-        → PieceStands write t offset p) ⌝ }
+        → PieceStands write t store offset len p) ⌝ }
 {}
 
 // No write is answered for a byte that is recalled or not held.
@@ -315,6 +339,12 @@ pub fn records_stand_for_tables()
 // The exported events are the events: on the record of a table they leave the record of the table that `called` leaves.
 pub fn exported_events_are_the_events()
     ensures { λ r. ⌜ ((e : Event) (t : Table) (store : List ℕ) → calledOn e (recordOf t) store ≡ recorded (called e t store)) ⌝ }
+{}
+
+// The exported lookups are the lookups: on the record of a table they answer what `routed` does on the table.
+pub fn exported_lookups_are_the_lookups()
+    ensures { λ r. ⌜ ((write : Bool) (t : Table) (store : List ℕ) (offset len : ℕ)
+        → routedOn write (recordOf t) store offset len ≡ locateResult (routed write t store offset len)) ⌝ }
 {}
 
 // ---- Worked examples

@@ -1,8 +1,10 @@
 -- Calls over records do along a list what the calls on tables do, so demand 3 is theirs too.
 use Prim.Native.Nat.{ℕ}
 use mathlib.Core.Path.{_≡_, refl, ap, _∙_}
+use mathlib.Core.Bool.{Bool}
 use mathlib.Core.List.{List, [], _∷_}
 use lib.ListN.{replicate}
+use Rattle.base.specs.Answer.{given}
 use Rattle.segments.specs.declared.Table.{Table}
 use Rattle.segments.specs.Segments.{emptyTable}
 use Rattle.record.specs.Records.{recordOf}
@@ -12,13 +14,20 @@ use Rattle.reference.specs.Claim.{Demand3, answered, storeLeft, tableLeft}
 use Rattle.reference.proofs.FromStep.{demand-3}
 use Rattle.events.specs.Events.{called}
 use Rattle.agreement.proofs.Demand.{step-met}
-use Rattle.driver.specs.Calls.{calledOn, recorded}
+use Rattle.route.specs.Routes.{routed}
+use Rattle.driver.specs.Calls.{calledOn, locateResult, recorded, routedOn}
 use Rattle.driver.specs.Lists.{Demand3OnRecords, answeredOn, onTables, recordLeft, storeLeftOn}
 
 -- an exported event on the record of a table leaves the record of the table that the event leaves
 pub on-record : (e : Event) (t : Table) (store : List ℕ) → calledOn e (recordOf t) store ≡ recorded (called e t store)
 unfolding calledOn
 on-record e t store = rw (table-back t)
+
+-- and an exported lookup answers what the lookup does
+pub on-record-routed : (write : Bool) (t : Table) (store : List ℕ) (offset len : ℕ)
+    → routedOn write (recordOf t) store offset len ≡ locateResult (routed write t store offset len)
+unfolding routedOn given
+on-record-routed write t store offset len = rw (table-back t)
 
 on-tables : (e : Event) (t : Table) (store : List ℕ) → onTables calledOn e t store ≡ called e t store
 unfolding onTables

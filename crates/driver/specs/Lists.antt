@@ -31,11 +31,12 @@ module _ (call : RecordCalls) where
   storeLeftOn [] r store = store
   storeLeftOn (e ∷ es) r store = storeLeftOn es (call e r store .table) (call e r store .store)
 
--- one call on the record of a table, as a call on that table; t would stand for a record that is no table
+-- the table of an answer; t where there is none
 abbrev pub tableOr : Table → Answer Table → Table
 tableOr t (accepted u) = u
 tableOr t (refused n) = t
 
+-- one call on the record of a table, as a call on that table
 unfoldable pub onTables : RecordCalls → Calls
 onTables call e t store =
     let r : RecordResult = call e (recordOf t) store in

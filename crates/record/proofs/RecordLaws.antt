@@ -114,6 +114,9 @@ only-table r =
     only-given (segmentsIn (r .read) (r .«read_count»)) _ (only-given (itemsIn (r .read)) _ (only-items (r .read)) λ xs. tt) λ g.
     only-given (segmentsIn (r .rw) (r .«rw_count»)) _ (only-given (itemsIn (r .rw)) _ (only-items (r .rw)) λ xs. tt) λ h. tt
 
+pub no-table-is-20 : (r : TableRecord) (n : ℕ) → tableIn r ≡ refused n → n ≡ 20
+no-table-is-20 r n e = let h : Only20 {A = Table} (refused n) = rw e at (only-table r) in h
+
 unfit-is : (a : Answer Table) (x : Taken) → Only20 a → x ≡ takenOf a → x .fits ≡ false → a ≡ refused 20
 unfolding takenOf
 unfit-is (accepted t) x o p f = absurd (false≢true (sym f ∙ ap (λ (y : Taken). y .fits) p))

@@ -61,7 +61,7 @@ order-canon lo r s (c ∷ l) a b h =
     turns : (eqb (suc (s .last)) (c .first) && sameRight (s .right) (c .right)) ≡ false → c .first ≡ suc (s .last) → c .right ≡ s .right → ⊥
     turns f e g = false≢true (sym f ∙ rw (eq-eqb (suc (s .last)) (c .first) (sym e), g) (same-right-refl (s .right)))
 
-in-order-canon : (l : List Segment) → inOrder l ≡ true → Canon 0 None l
+pub in-order-canon : (l : List Segment) → inOrder l ≡ true → Canon 0 None l
 unfolding Canon apartFromNext apart
 in-order-canon [] h = tt
 in-order-canon (s ∷ l) h = order-canon 0 None s l (omega arith) (λ e. some-right (s .right) (in-order s l h .under)) h

@@ -36,7 +36,7 @@ modelOf t store = record { right = rightIn t store; slots = slotsIn t store }
 
 -- ---- models that tables and stores show
 
--- a body that a grant may bring
+-- a body that a grant may bring; `small` follows from `read`, and spares the laws of slots that step
 pub record GoodBody (b : Body) : Type 0 where
   pub read : isAccepted (layoutBody b) ≡ true
   pub small : length b ≤ 4090

@@ -1,5 +1,5 @@
--- Worked examples of the table: lists of events, and what the model must make of them on a file of 2^64 bytes. Here are those that the scope paper does
--- not star; examples/specs/Examples.antt has the starred ones.
+-- Worked examples of the table: lists of events, and what the model must make of them on a file of 2^64 bytes. Here are two that the scope
+-- paper does not star and some of our own; examples/specs/Examples.antt has the starred ones.
 use Prim.Native.Nat.{ℕ, zero, suc, _+_}
 use mathlib.Core.Path.{_≡_}
 use mathlib.Core.List.{List, [], _∷_, _++_}
@@ -55,6 +55,11 @@ abbrev pub returnsFrom : ℕ → ℕ → List Event
 returnsFrom zero x = []
 returnsFrom (suc n) x = Return x 1 2 ∷ returnsFrom n (x + 2)
 
+-- grants in RW of n single bytes from x on, each under a body of its own
+abbrev pub bodiesFrom : ℕ → ℕ → List Event
+bodiesFrom zero x = []
+bodiesFrom (suc n) x = grantOf x 1 2 x ∷ bodiesFrom n (suc x)
+
 abbrev pub cases : List Case
 cases =
     -- a recall of bytes that are not held is 25, whatever is held beside them
@@ -80,7 +85,7 @@ cases =
     }
     -- "8 bodies held: a ninth, on bytes not held, is 24; after one is wholly returned it is accepted in that slot."
     ∷ record {
-      events = grantOf 0 1 2 0 ∷ grantOf 1 1 2 1 ∷ grantOf 2 1 2 2 ∷ grantOf 3 1 2 3 ∷ grantOf 4 1 2 4 ∷ grantOf 5 1 2 5 ∷ grantOf 6 1 2 6 ∷ grantOf 7 1 2 7 ∷ grantOf 8 1 2 8 ∷ Return 3 1 2 ∷ grantOf 8 1 2 8 ∷ [];
+      events = bodiesFrom 8 0 ++ (grantOf 8 1 2 8 ∷ Return 3 1 2 ∷ grantOf 8 1 2 8 ∷ []);
       numbers = 0 ∷ 0 ∷ 0 ∷ 0 ∷ 0 ∷ 0 ∷ 0 ∷ 0 ∷ 24 ∷ 0 ∷ 0 ∷ [];
       read = [];
       rw = grantedIn 0 0 0 ∷ grantedIn 1 1 1 ∷ grantedIn 2 2 2 ∷ grantedIn 4 4 4 ∷ grantedIn 5 5 5 ∷ grantedIn 6 6 6 ∷ grantedIn 7 7 7 ∷ grantedIn 3 8 8 ∷ [];

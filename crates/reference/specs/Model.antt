@@ -175,7 +175,7 @@ withSlot ss none = table.None
 withSlot ss (granted b) = table.Granted (record { 0 = slotOf b ss })
 withSlot ss (recalled b) = table.Recalled (record { 0 = slotOf b ss })
 
--- ---- every byte of the file: the bytes 0 to N (demand 3 is for N = 2^64 - 1, the worked examples for short files)
+-- ---- every byte of the file: the bytes 0 to N (demand 3 and the worked examples are for N = 2^64 - 1)
 
 -- the answer n where the test holds, else what follows
 abbrev pub refuse : ℕ → Bool → ℕ → ℕ

@@ -19,12 +19,32 @@ use Rattle.segments.specs.declared.Table.{Table}
 use Rattle.segments.specs.Segments.{Mode, RW, blank, listIn, rightAt}
 use Rattle.store.specs.Store.{bodyIn, slotAt}
 use Rattle.reference.specs.Sound.{sound}
-use Rattle.route.specs.Routes.{Serving, iomodeFor, layoutIn, mirrorsNamed, pieceAt, routed, served}
-use Rattle.route.specs.Stripes.{pieceLength, stripeOf}
+use Rattle.route.specs.Routes.{FillsUnit, Serving, iomodeFor, layoutIn, mirrorsNamed, pieceAt, routed, served}
+use Rattle.route.specs.Stripes.{pieceLength, stripeOf, unitRest}
 use Rattle.route.specs.declared.piece.Piece.{Piece}
 use Rattle.route.proofs.MirrorLaws.{some-named}
 use Rattle.route.proofs.ServedLaws.{grant-found, request-refused, served-limits, served-refused, what-serves}
-use Rattle.route.proofs.StripeLaws.{one-stripe, piece-in-len, piece-in-rest, piece-in-unit-rest, piece-some, same-unit, stripe-by-unit}
+use Rattle.route.proofs.StripeLaws.{one-stripe, piece-ends, piece-in-len, piece-in-rest, piece-in-unit-rest, piece-some, same-unit, stripe-by-unit}
+
+-- a piece ends with its request, with its segment, whose last byte is end, or with its unit
+ends-of : (store : List ℕ) (offset len : ℕ) (p : Piece) (v : Serving) (end : ℕ) → layoutIn store (p .slot .0) ≡ accepted (v .layout)
+    → pieceLength (v .layout .summary .unit) (v .layout .summary .servers) (v .grant .last) offset len ≡ p .length
+    → offset ≤ v .grant .last → end ≡ v .grant .last → (1 < v .layout .summary .servers → 0 < v .layout .summary .unit)
+    → (p .length ≡ len) ⊎ ((end ≡ offset + p .length - 1) ⊎ FillsUnit store offset p)
+unfolding unitRest
+ends-of store offset len p v end h n c d u =
+    go (piece-ends (v .layout .summary .unit) (v .layout .summary .servers) (v .grant .last) offset len)
+  where
+    L : ℕ
+    L = pieceLength (v .layout .summary .unit) (v .layout .summary .servers) (v .grant .last) offset len
+
+    go : (L ≡ len) ⊎ ((L ≡ v .grant .last - offset + 1) ⊎ ((1 < v .layout .summary .servers) × (L ≡ unitRest (v .layout .summary .unit) offset)))
+        → (p .length ≡ len) ⊎ ((end ≡ offset + p .length - 1) ⊎ FillsUnit store offset p)
+    go (inl e) = inl (sym n ∙ e)
+    go (inr (inl e)) = let k : p .length ≡ v .grant .last - offset + 1 = sym n ∙ e in inr (inl (omega arith))
+    go (inr (inr e)) =
+        let k : p .length ≡ v .layout .summary .unit - offset % v .layout .summary .unit = sym n ∙ e .1 in
+        inr (inr (record { layout = v .layout; read = h; several = e .0; filled = omega (arith, k, mod-lt offset (u (e .0))) }))
 
 -- ---- a request's answer by parts
 
@@ -79,6 +99,7 @@ module _ (write : Bool) (t : Table) (store : List ℕ) (offset len : ℕ) where
       pub first : getD (listIn t mode) place blank .first ≤ offset
       pub last : offset + p .length - 1 ≤ getD (listIn t mode) place blank .last
       pub right : getD (listIn t mode) place blank .right ≡ Granted (p .slot)
+      pub ends : (p .length ≡ len) ⊎ ((getD (listIn t mode) place blank .last ≡ offset + p .length - 1) ⊎ FillsUnit store offset p)
       pub shown : rightAt (listIn t mode) offset ≡ Granted (p .slot)
       pub in-rw : write ≡ true → mode ≡ RW
 
@@ -89,6 +110,7 @@ module _ (write : Bool) (t : Table) (store : List ℕ) (offset len : ℕ) where
         let v = r .serving in
         let w = what-serves t store offset write v (r .serves) in
         let f = grant-found (listIn t (w .mode)) offset (v .grant) (w .grant) in
+        let m = served-limits write t store offset len (r .last) v (r .range) (r .serves) in
         let n : pieceLength (v .layout .summary .unit) (v .layout .summary .servers) (v .grant .last) offset len ≡ p .length = ap (λ (q : Piece). q .length) (r .piece) in
         let b = piece-in-rest (v .layout .summary .unit) (v .layout .summary .servers) (v .grant .last) offset len in
         let c : offset ≤ v .grant .last = f .inside in
@@ -102,6 +124,7 @@ module _ (write : Bool) (t : Table) (store : List ℕ) (offset len : ℕ) where
           first = f .first;
           last = omega arith;
           right = f .right ∙ s;
+          ends = ends-of store offset len p v _ (ap (λ (q : Piece). layoutIn store (q .slot .0)) (sym (r .piece)) ∙ w .layout) n c d (m .4);
           shown = f .shown ∙ s;
           in-rw = w .in-rw;
         }

@@ -5,6 +5,7 @@ use mathlib.Core.Bool.{Bool, true, false, false≢true}
 use mathlib.Core.List.{List, [], _∷_}
 use Rattle.base.specs.Answer.{Answer, accepted, refused, given, pick}
 use Rattle.base.specs.Ranges.{requestLast}
+use Rattle.base.specs.declared.SlotNumber.{SlotNumber}
 use Rattle.base.specs.declared.iomode.Iomode.{Iomode}
 use Rattle.base.specs.declared.iomode.Iomode.the-variants.{Read, ReadWrite}
 use Rattle.layout.specs.Layouts.{Layout}
@@ -37,6 +38,14 @@ grant-shown (s ∷ l) x = go (within (s .first) (s .last) x) (grant-shown l x)
     go false rest = rest
 
 module _ (t : Table) (store : List ℕ) (s : sound t store ≡ true) where
+  -- a byte that a list shows as granted has that right, under the body in the slot
+  pub granted-under : (m : Mode) (x : ℕ) (i : SlotNumber) → rightAt (listIn t m) x ≡ Granted i → rightIn t store m x ≡ granted (bodyIn (slotAt store (i .0)))
+  unfolding rightIn
+  granted-under m x i e =
+      let w : Under (slotsIn t store) (Granted i) = rw e at (under-at t store (sounds t store s) m x) in
+      let h = holding t store (sounds t store s) (i .0) (w .0) (w .1) in
+      ap (withBody (slotsIn t store)) e ∙ (ap (underSlot granted) (w .1) ∙ ap granted (sym (h .body)))
+
   -- a byte's grant and its right in an iomode: granted, under the body in the grant's slot, or no grant
   data Seen (m : Mode) (x : ℕ) : Type 0 where
     by-grant : (g : Grant) → grantAt (listIn t m) x ≡ accepted g → rightIn t store m x ≡ granted (bodyIn (slotAt store (g .slot))) → Seen m x
@@ -50,10 +59,7 @@ module _ (t : Table) (store : List ℕ) (s : sound t store ≡ true) where
           → Under (slotsIn t store) (rightAt (listIn t m) x) → Seen m x
       go None e g u = without (g .1 ∙ ap (λ (r : Right). grantOf r (g .0)) e) (λ i. ap (λ (r : Right). byGrant i (withBody (slotsIn t store) r)) e)
       go (Granted i) e g u =
-          let w : Under (slotsIn t store) (Granted i) = rw e at u in
-          let h = holding t store (sounds t store s) (i .0) (w .0) (w .1) in
-          by-grant (record { slot = i .0; last = g .0 }) (g .1 ∙ ap (λ (r : Right). grantOf r (g .0)) e)
-          (ap (withBody (slotsIn t store)) e ∙ (ap (underSlot granted) (w .1) ∙ ap granted (sym (h .body))))
+          by-grant (record { slot = i .0; last = g .0 }) (g .1 ∙ ap (λ (r : Right). grantOf r (g .0)) e) (granted-under m x i e)
       go (Recalled i) e g u =
           let w : Under (slotsIn t store) (Recalled i) = rw e at u in
           without (g .1 ∙ ap (λ (r : Right). grantOf r (g .0)) e)

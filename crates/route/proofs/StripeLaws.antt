@@ -2,6 +2,8 @@
 use Prim.Native.Nat.{ℕ, _+_, _-_, _*_, _/_, _%_, _≤_, _<_, min}
 use mathlib.Core.Path.{_≡_, refl, ap, _∙_}
 use mathlib.Core.Bool.{Bool, true, false}
+use mathlib.Core.Logic.{_⊎_, inl, inr}
+use native.Mathlib.Decide.{decLe}
 use native.Mathlib.Nat.{add-mul, div-add-mod', div-eq-of-lt-le, mod-lt, one-mul}
 use native.Mathlib.Omega.{arith}
 use borrow.Author.Tests.{leb-false, le-leb, lt-leb}
@@ -80,3 +82,20 @@ module _ (unit servers : ℕ) where
     pub piece-in-unit-rest : 1 < servers → pieceLength unit servers last offset len ≤ unitRest unit offset
     unfolding pieceLength pick
     piece-in-unit-rest h = rw (lt-leb servers 1 h) (omega arith)
+
+    -- and it is no shorter than the shortest of the three
+    pub piece-ends : (pieceLength unit servers last offset len ≡ len)
+        ⊎ ((pieceLength unit servers last offset len ≡ last - offset + 1)
+        ⊎ ((1 < servers) × (pieceLength unit servers last offset len ≡ unitRest unit offset)))
+    unfolding pieceLength pick
+    piece-ends = go (leb servers 1) refl (unitRest unit offset) (decLe len (last - offset + 1)) (decLe (min len (last - offset + 1)) (unitRest unit offset))
+      where
+        go : (b : Bool) → leb servers 1 ≡ b → (rest : ℕ) → Dec (len ≤ last - offset + 1) → Dec (min len (last - offset + 1) ≤ rest)
+            → (pick b (min len (last - offset + 1)) (min (min len (last - offset + 1)) rest) ≡ len)
+            ⊎ ((pick b (min len (last - offset + 1)) (min (min len (last - offset + 1)) rest) ≡ last - offset + 1)
+            ⊎ ((1 < servers) × (pick b (min len (last - offset + 1)) (min (min len (last - offset + 1)) rest) ≡ rest)))
+        go true h rest (yes d) e = inl (omega arith)
+        go true h rest (no d) e = inr (inl (omega arith))
+        go false h rest (yes d) (yes e) = inl (omega arith)
+        go false h rest (no d) (yes e) = inr (inl (omega arith))
+        go false h rest d (no e) = inr (inr (leb-false servers 1 h, omega arith))

@@ -1,5 +1,6 @@
 -- "Where an I/O goes": by the right at its first byte, and the layout body under which that byte is held.
-use Prim.Native.Nat.{ℕ}
+use Prim.Native.Nat.{ℕ, _+_, _%_, _<_}
+use mathlib.Core.Path.{_≡_}
 use mathlib.Core.Bool.{Bool, true, false}
 use mathlib.Core.List.{List, [], _∷_}
 use Rattle.base.specs.Answer.{Answer, accepted, refused, given, pick}
@@ -111,3 +112,10 @@ routed write t store offset len =
     given (served write t store offset) λ v.
     accepted (pieceAt write store offset len v))
     (refused 20)
+
+-- a piece from offset on that fills its stripe unit, as it can with more than one server only
+pub record FillsUnit (store : List ℕ) (offset : ℕ) (p : Piece) : Type 0 where
+  pub layout : Layout
+  pub read : layoutIn store (p .slot .0) ≡ accepted layout
+  pub several : 1 < layout .summary .servers
+  pub filled : offset % layout .summary .unit + p .length ≡ layout .summary .unit

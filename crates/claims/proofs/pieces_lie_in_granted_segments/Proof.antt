@@ -15,6 +15,7 @@ returns c =
       first = h .first;
       last = h .last;
       right = h .right;
+      ends = h .ends;
       in-rw = h .in-rw;
     }
 
