@@ -70,6 +70,7 @@ fn read_head(cursor: &mut Cursor) -> Result<ReportHead, Refusal> {
 
 /// "errors of device id, status, operation; an error is judged when all three
 /// are read."
+#[inline]
 pub fn read_error(cursor: &mut Cursor) -> Result<DeviceError, Refusal> {
     let error = DeviceError { device_id: cursor.fixed()?, status: cursor.uint()?, operation: cursor.uint()? };
     check_error(&error)?;
