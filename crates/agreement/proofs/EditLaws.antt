@@ -17,8 +17,8 @@ use Rattle.table.specs.declared.change.Edited.{Edited}
 use Rattle.reference.proofs.Decode.{list-of}
 use Rattle.segments.proofs.ScanLaws.{segments-ext}
 use Rattle.agreement.proofs.EditShows.{edit-scan}
-use Rattle.table.specs.Edits.{bothFit, edited, editedIn, editedWhere, tableEdited}
-use Rattle.agreement.proofs.Changed.{changedFun, changedRight}
+use Rattle.table.specs.Edits.{bothFit, changedRight, edited, editedIn, editedWhere, tableEdited}
+use Rattle.agreement.proofs.Changed.{changedFun}
 use Rattle.reference.specs.Model.{Model, Order, act, afterAt, covers, segmentsIn, tableOf, tooMany, withSlot}
 
 -- ---- one iomode

@@ -16,8 +16,8 @@ use Rattle.segments.proofs.Canon.{Canon, Ord, canon-ord, ord-less, ord-under}
 use Rattle.segments.proofs.ScanLaws.{segments-canon, segments-past, segments-show}
 use Rattle.segments.proofs.Fewest.{unique}
 use Rattle.table.specs.declared.change.Change.{Change}
-use Rattle.table.specs.Edits.{after, before, edited, middle, parts}
-use Rattle.agreement.proofs.Changed.{changedFun, changedRight}
+use Rattle.table.specs.Edits.{after, before, changedRight, edited, middle, parts}
+use Rattle.agreement.proofs.Changed.{changedFun}
 use Rattle.agreement.proofs.PushShows.{pushAll-shows}
 use Rattle.agreement.proofs.PartsShow.{after-shows, at-append-none, at-append-past, before-shows, middle-shows, ord-append}
 

@@ -1,20 +1,19 @@
 -- What the parts of a rising list before, inside and after a range show, and lists behind each other.
 use Prim.Native.Nat.{ℕ, suc, _+_, _-_, _≤_, _<_, max, min}
 use mathlib.Core.Path.{_≡_, refl, sym, ap, _∙_}
+use mathlib.Core.Bool.{Bool, true, false}
 use mathlib.Core.List.{List, [], _∷_, _++_}
 use native.Mathlib.Omega.{arith}
 use native.Mathlib.Decide.{decLe, decLt}
 use borrow.Author.Tests.{le-leb, le-ltb, lt-leb, lt-ltb}
 use Rattle.base.specs.Answer.{pick}
-use Rattle.segments.specs.declared.Right.{Right}
-use Rattle.segments.specs.declared.Right.the-variants.{None, Granted, Recalled}
+use Rattle.segments.specs.declared.Right.the-variants.{None, Granted}
 use Rattle.segments.specs.declared.Segment.{Segment}
-use Rattle.segments.specs.Segments.{rightAt}
-use Rattle.segments.proofs.Canon.{Below, Ord, at-in, at-none, at-past, at-under, granted-some, ord-less, recalled-some}
+use Rattle.segments.specs.Segments.{rightAt, sameRight}
+use Rattle.segments.proofs.Canon.{Below, Ord, at-in, at-none, at-past, at-under, granted-some, ord-less, ord-under, same-right-false, same-right-true}
 use Rattle.table.specs.declared.change.Change.{Change}
 use Rattle.table.specs.declared.change.Change.the-variants.{Grant, Clear, Recall}
-use Rattle.table.specs.Edits.{after, before, inside, middle, parts, recalledOf}
-use Rattle.agreement.proofs.Changed.{changedRight}
+use Rattle.table.specs.Edits.{after, before, changedRight, cutInside, inside, kept, middle, parts}
 use Rattle.agreement.proofs.PushShows.{at-tail}
 
 -- ---- lists behind each other
@@ -111,74 +110,89 @@ after-shows hi b (s ∷ l) o = go (decLt hi (s .last)) (after-shows hi (suc (s .
           λ x k. h .1 x k ∙ sym (at-past s l x (omega arith)),
         )
 
--- ---- inside the range
+-- ---- inside the range: a part that comes to none is dropped
 
-recalled-none : (r : Right) → recalledOf r ≡ None → r ≡ None
-recalled-none None e = refl
-recalled-none (Granted i) e = absurd (recalled-some i e)
-recalled-none (Recalled i) e = absurd (recalled-some i e)
+module _ (c : Change) where
+  pub inside-cuts : (lo hi : ℕ) (s : Segment) (l : List Segment) → s .first ≤ hi → lo ≤ s .last → sameRight None (changedRight c (s .right)) ≡ false
+      → parts (inside c lo hi) (s ∷ l) ≡ cutInside c lo hi s ∷ parts (inside c lo hi) l
+  unfolding parts inside kept pick
+  inside-cuts lo hi s l h k e = rw (le-leb (s .first) hi h, le-leb lo (s .last) k, e)
 
-abbrev cutInside : ℕ → ℕ → Segment → Segment
-cutInside lo hi s = record { first = max (s .first) lo; last = min (s .last) hi; right = recalledOf (s .right) }
+  pub inside-drops : (lo hi : ℕ) (s : Segment) (l : List Segment) → s .first ≤ hi → lo ≤ s .last → sameRight None (changedRight c (s .right)) ≡ true
+      → parts (inside c lo hi) (s ∷ l) ≡ parts (inside c lo hi) l
+  unfolding parts inside kept pick
+  inside-drops lo hi s l h k e = rw (le-leb (s .first) hi h, le-leb lo (s .last) k, e)
 
-pub inside-cuts : (lo hi : ℕ) (s : Segment) (l : List Segment) → s .first ≤ hi → lo ≤ s .last
-    → parts (inside lo hi) (s ∷ l) ≡ cutInside lo hi s ∷ parts (inside lo hi) l
-unfolding parts inside pick
-inside-cuts lo hi s l h k = rw (le-leb (s .first) hi h, le-leb lo (s .last) k)
+  pub inside-skips-past : (lo hi : ℕ) (s : Segment) (l : List Segment) → hi < s .first → parts (inside c lo hi) (s ∷ l) ≡ parts (inside c lo hi) l
+  unfolding parts inside pick
+  inside-skips-past lo hi s l h = rw (lt-leb (s .first) hi h)
 
-pub inside-skips-past : (lo hi : ℕ) (s : Segment) (l : List Segment) → hi < s .first → parts (inside lo hi) (s ∷ l) ≡ parts (inside lo hi) l
-unfolding parts inside pick
-inside-skips-past lo hi s l h = rw (lt-leb (s .first) hi h)
+  pub inside-skips-under : (lo hi : ℕ) (s : Segment) (l : List Segment) → s .first ≤ hi → s .last < lo → parts (inside c lo hi) (s ∷ l) ≡ parts (inside c lo hi) l
+  unfolding parts inside pick
+  inside-skips-under lo hi s l h k = rw (le-leb (s .first) hi h, lt-leb lo (s .last) k)
 
-pub inside-skips-under : (lo hi : ℕ) (s : Segment) (l : List Segment) → s .first ≤ hi → s .last < lo → parts (inside lo hi) (s ∷ l) ≡ parts (inside lo hi) l
-unfolding parts inside pick
-inside-skips-under lo hi s l h k = rw (le-leb (s .first) hi h, lt-leb lo (s .last) k)
+  abbrev Inside : ℕ → ℕ → ℕ → List Segment → List Segment → Type 0
+  Inside lo hi b l ps = Ord (max b lo) ps × Below (suc hi) ps × ((x : ℕ) → lo ≤ x → x ≤ hi → rightAt ps x ≡ changedRight c (rightAt l x))
 
-abbrev Inside : ℕ → ℕ → ℕ → List Segment → List Segment → Type 0
-Inside lo hi b l ps = Ord (max b lo) ps × Below (suc hi) ps × ((x : ℕ) → lo ≤ x → x ≤ hi → rightAt ps x ≡ recalledOf (rightAt l x))
+  pub inside-shows : (lo hi b : ℕ) (l : List Segment) → changedRight c None ≡ None → lo ≤ hi → Ord b l → Inside lo hi b l (parts (inside c lo hi) l)
+  unfolding Ord Below parts
+  inside-shows lo hi b [] z n o = (tt, tt, λ x h k. at-none x ∙ (sym z ∙ ap (changedRight c) (sym (at-none x))))
+  inside-shows lo hi b (s ∷ l) z n o =
+      go (decLe (s .first) hi) (decLe lo (s .last)) (sameRight None (changedRight c (s .right))) refl (inside-shows lo hi (suc (s .last)) l z n (o .3))
+    where
+      -- a byte before the segment, and one behind it
+      under : (ps : List Segment) (x : ℕ) → rightAt ps x ≡ changedRight c (rightAt l x) → x < s .first → rightAt ps x ≡ changedRight c (rightAt (s ∷ l) x)
+      under ps x e p = e ∙ ap (changedRight c) (sym (at-under s l x p))
 
-inside-shows : (lo hi b : ℕ) (l : List Segment) → lo ≤ hi → Ord b l → Inside lo hi b l (parts (inside lo hi) l)
-unfolding Ord Below parts
-inside-shows lo hi b [] n o = (tt, tt, λ x h k. at-none x ∙ ap (λ (r : Right). recalledOf r) (sym (at-none x)))
-inside-shows lo hi b (s ∷ l) n o = go (decLe (s .first) hi) (decLe lo (s .last)) (inside-shows lo hi (suc (s .last)) l n (o .3))
-  where
-    go : Dec (s .first ≤ hi) → Dec (lo ≤ s .last) → Inside lo hi (suc (s .last)) l (parts (inside lo hi) l)
-        → Inside lo hi b (s ∷ l) (parts (inside lo hi) (s ∷ l))
-    go (yes d) (yes e) h =
-        rw (inside-cuts lo hi s l d e) (
-          (
-            omega arith,
-            omega arith,
-            λ z. o .2 (recalled-none (s .right) z),
-            ord-less (suc (min (s .last) hi)) (max (suc (s .last)) lo) (parts (inside lo hi) l) (omega arith) (h .0),
-          ),
-          (omega arith, h .1),
-          λ x k m. see x k m (decLe (s .first) x) (decLe x (s .last)),
-        )
-      where
-        see : (x : ℕ) → lo ≤ x → x ≤ hi → Dec (s .first ≤ x) → Dec (x ≤ s .last)
-            → rightAt (cutInside lo hi s ∷ parts (inside lo hi) l) x ≡ recalledOf (rightAt (s ∷ l) x)
-        see x k m (no p) q =
-            at-under (cutInside lo hi s) (parts (inside lo hi) l) x (omega arith)
-            ∙ (h .2 x k m ∙ ap (λ (r : Right). recalledOf r) (sym (at-under s l x (omega arith))))
-        see x k m (yes p) (yes q) =
-            at-in (cutInside lo hi s) (parts (inside lo hi) l) x (omega arith) (omega arith)
-            ∙ ap (λ (r : Right). recalledOf r) (sym (at-in s l x p q))
-        see x k m (yes p) (no q) =
-            at-past (cutInside lo hi s) (parts (inside lo hi) l) x (omega arith)
-            ∙ (h .2 x k m ∙ ap (λ (r : Right). recalledOf r) (sym (at-past s l x (omega arith))))
-    go (no d) e h =
-        rw (inside-skips-past lo hi s l (omega arith)) (
-          ord-less (max b lo) (max (suc (s .last)) lo) (parts (inside lo hi) l) (omega arith) (h .0),
-          h .1,
-          λ x k m. h .2 x k m ∙ ap (λ (r : Right). recalledOf r) (sym (at-under s l x (omega arith))),
-        )
-    go (yes d) (no e) h =
-        rw (inside-skips-under lo hi s l d (omega arith)) (
-          ord-less (max b lo) (max (suc (s .last)) lo) (parts (inside lo hi) l) (omega arith) (h .0),
-          h .1,
-          λ x k m. h .2 x k m ∙ ap (λ (r : Right). recalledOf r) (sym (at-past s l x (omega arith))),
-        )
+      past : (ps : List Segment) (x : ℕ) → rightAt ps x ≡ changedRight c (rightAt l x) → s .last < x → rightAt ps x ≡ changedRight c (rightAt (s ∷ l) x)
+      past ps x e p = e ∙ ap (changedRight c) (sym (at-past s l x p))
+
+      go : Dec (s .first ≤ hi) → Dec (lo ≤ s .last) → (t : Bool) → sameRight None (changedRight c (s .right)) ≡ t
+          → Inside lo hi (suc (s .last)) l (parts (inside c lo hi) l) → Inside lo hi b (s ∷ l) (parts (inside c lo hi) (s ∷ l))
+      go (yes d) (yes e) false w h =
+          rw (inside-cuts lo hi s l d e w) (
+            (
+              omega arith,
+              omega arith,
+              λ y. same-right-false None (changedRight c (s .right)) w (sym y),
+              ord-less (suc (min (s .last) hi)) (max (suc (s .last)) lo) (parts (inside c lo hi) l) (omega arith) (h .0),
+            ),
+            (omega arith, h .1),
+            λ x k m. see x k m (decLe (s .first) x) (decLe x (s .last)),
+          )
+        where
+          see : (x : ℕ) → lo ≤ x → x ≤ hi → Dec (s .first ≤ x) → Dec (x ≤ s .last)
+              → rightAt (cutInside c lo hi s ∷ parts (inside c lo hi) l) x ≡ changedRight c (rightAt (s ∷ l) x)
+          see x k m (no p) q = at-under (cutInside c lo hi s) (parts (inside c lo hi) l) x (omega arith) ∙ under (parts (inside c lo hi) l) x (h .2 x k m) (omega arith)
+          see x k m (yes p) (yes q) = at-in (cutInside c lo hi s) (parts (inside c lo hi) l) x (omega arith) (omega arith) ∙ ap (changedRight c) (sym (at-in s l x p q))
+          see x k m (yes p) (no q) = at-past (cutInside c lo hi s) (parts (inside c lo hi) l) x (omega arith) ∙ past (parts (inside c lo hi) l) x (h .2 x k m) (omega arith)
+      go (yes d) (yes e) true w h =
+          rw (inside-drops lo hi s l d e w) (
+            ord-less (max b lo) (max (suc (s .last)) lo) (parts (inside c lo hi) l) (omega arith) (h .0),
+            h .1,
+            λ x k m. see x k m (decLe (s .first) x) (decLe x (s .last)),
+          )
+        where
+          see : (x : ℕ) → lo ≤ x → x ≤ hi → Dec (s .first ≤ x) → Dec (x ≤ s .last) → rightAt (parts (inside c lo hi) l) x ≡ changedRight c (rightAt (s ∷ l) x)
+          see x k m (no p) q = under (parts (inside c lo hi) l) x (h .2 x k m) (omega arith)
+          -- behind the segment nothing begins before its last byte, and it has come to none itself
+          see x k m (yes p) (yes q) =
+              h .2 x k m
+              ∙ (ap (changedRight c) (ord-under (suc (s .last)) l (o .3) x (omega arith))
+              ∙ (z ∙ (same-right-true None (changedRight c (s .right)) w ∙ ap (changedRight c) (sym (at-in s l x p q)))))
+          see x k m (yes p) (no q) = past (parts (inside c lo hi) l) x (h .2 x k m) (omega arith)
+      go (no d) e t w h =
+          rw (inside-skips-past lo hi s l (omega arith)) (
+            ord-less (max b lo) (max (suc (s .last)) lo) (parts (inside c lo hi) l) (omega arith) (h .0),
+            h .1,
+            λ x k m. under (parts (inside c lo hi) l) x (h .2 x k m) (omega arith),
+          )
+      go (yes d) (no e) t w h =
+          rw (inside-skips-under lo hi s l d (omega arith)) (
+            ord-less (max b lo) (max (suc (s .last)) lo) (parts (inside c lo hi) l) (omega arith) (h .0),
+            h .1,
+            λ x k m. past (parts (inside c lo hi) l) x (h .2 x k m) (omega arith),
+          )
 
 abbrev Middle : Change → ℕ → ℕ → List Segment → List Segment → Type 0
 Middle c lo hi l ps = Ord lo ps × Below (suc hi) ps × ((x : ℕ) → lo ≤ x → x ≤ hi → rightAt ps x ≡ changedRight c (rightAt l x))
@@ -192,5 +206,5 @@ middle-shows (Grant i) lo hi l n o = (
 )
 middle-shows Clear lo hi l n o = (tt, tt, λ x h k. at-none x)
 middle-shows Recall lo hi l n o =
-    let h = inside-shows lo hi 0 l n o in
-    (ord-less lo (max 0 lo) (parts (inside lo hi) l) (omega arith) (h .0), h .1, h .2)
+    let h = inside-shows Recall lo hi 0 l refl n o in
+    (ord-less lo (max 0 lo) (parts (inside Recall lo hi) l) (omega arith) (h .0), h .1, h .2)

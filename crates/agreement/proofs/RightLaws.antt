@@ -9,7 +9,7 @@ use Rattle.segments.specs.declared.Right.the-variants.{Granted, Recalled}
 use Rattle.segments.specs.Segments.{Mode}
 use Rattle.table.specs.declared.change.Change.{Change}
 use Rattle.table.specs.declared.change.Change.the-variants as change
-use Rattle.agreement.proofs.Changed.{changedRight}
+use Rattle.table.specs.Edits.{changedRight}
 use Rattle.store.specs.Store.{Body, Slot}
 use Rattle.reference.specs.Model.{ByteRight, none, granted, recalled, Model, Order, Deed, grants, returns, recalls, revokes, act, afterAt, anyByte, covers, inSlots, isUnder, placed, rightAfter, slotOf, withSlot}
 use Rattle.reference.proofs.SlotLaws.{named-slot, placed-slot}

@@ -7,12 +7,15 @@ use native.Mathlib.Omega.{arith}
 use native.Mathlib.Decide.{decLe}
 use lib.ListN.{length}
 use Rattle.base.specs.Answer.{pick}
+use Rattle.segments.specs.declared.Right.the-variants.{None}
 use Rattle.segments.specs.declared.Segment.{Segment}
+use Rattle.segments.specs.Segments.{sameRight}
 use Rattle.segments.proofs.Canon.{Below}
+use Rattle.table.specs.declared.change.Change.{Change}
 use Rattle.table.specs.declared.change.Change.the-variants.{Clear, Recall}
-use Rattle.table.specs.Edits.{after, before, edited, inside, middle, parts, pushAll, pushSeg, pushTo, touching}
+use Rattle.table.specs.Edits.{after, before, changedRight, edited, inside, middle, parts, pushAll, pushSeg, pushTo, touching}
 use Rattle.table.proofs.PushLists.{joined}
-use Rattle.agreement.proofs.PartsShow.{after-skips, before-skips, inside-cuts, inside-skips-past}
+use Rattle.agreement.proofs.PartsShow.{after-skips, before-skips, inside-cuts, inside-drops, inside-skips-past}
 
 -- ---- pushes add at most what is pushed
 
@@ -50,14 +53,16 @@ unfolding parts Below
 none-after hi [] b = refl
 none-after hi (s ∷ l) b = after-skips hi s l (omega arith) ∙ none-after hi l (b .1)
 
-no-more-inside : (hi : ℕ) (l : List Segment) → length (parts (inside 0 hi) l) ≤ length l
+no-more-inside : (c : Change) (hi : ℕ) (l : List Segment) → length (parts (inside c 0 hi) l) ≤ length l
 unfolding parts
-no-more-inside hi [] = omega arith
-no-more-inside hi (s ∷ l) = go (decLe (s .first) hi) (no-more-inside hi l)
+no-more-inside c hi [] = omega arith
+no-more-inside c hi (s ∷ l) = go (decLe (s .first) hi) (sameRight None (changedRight c (s .right))) refl (no-more-inside c hi l)
   where
-    go : Dec (s .first ≤ hi) → length (parts (inside 0 hi) l) ≤ length l → length (parts (inside 0 hi) (s ∷ l)) ≤ suc (length l)
-    go (yes d) h = rw (inside-cuts 0 hi s l d (omega arith)) (omega arith)
-    go (no d) h = rw (inside-skips-past 0 hi s l (omega arith)) (omega arith)
+    go : Dec (s .first ≤ hi) → (b : Bool) → sameRight None (changedRight c (s .right)) ≡ b → length (parts (inside c 0 hi) l) ≤ length l
+        → length (parts (inside c 0 hi) (s ∷ l)) ≤ suc (length l)
+    go (yes d) false w h = rw (inside-cuts c 0 hi s l d (omega arith) w) (omega arith)
+    go (yes d) true w h = rw (inside-drops c 0 hi s l d (omega arith) w) (omega arith)
+    go (no d) b w h = rw (inside-skips-past c 0 hi s l (omega arith)) (omega arith)
 
 -- ---- the edits
 
@@ -71,6 +76,6 @@ clear-whole-needs-no-more hi l b = rw (clear-whole-empties hi l b) (omega arith)
 pub recall-whole-needs-no-more : (hi : ℕ) (l : List Segment) → Below (suc hi) l → length (edited Recall 0 hi l) ≤ length l
 unfolding edited middle
 recall-whole-needs-no-more hi l b =
-    let h = pushAll-adds-at-most [] (parts (inside 0 hi) l) in
-    let k = no-more-inside hi l in
-    rw (none-before l, none-after hi l b, append-nil (parts (inside 0 hi) l)) (omega arith)
+    let h = pushAll-adds-at-most [] (parts (inside Recall 0 hi) l) in
+    let k = no-more-inside Recall hi l in
+    rw (none-before l, none-after hi l b, append-nil (parts (inside Recall 0 hi) l)) (omega arith)

@@ -5,7 +5,8 @@ use mathlib.Core.List.{[], _∷_}
 use borrow.Author.Tests.{le-leb, le-ltb, lt-leb, lt-ltb}
 use Rattle.base.specs.Answer.{pick}
 use Rattle.segments.specs.declared.Segment.{Segment}
-use Rattle.table.specs.Edits.{after, before, inside, recalledOf}
+use Rattle.table.specs.declared.change.Change.{Change}
+use Rattle.table.specs.Edits.{after, before, changedRight, inside, kept}
 
 module _ (s : Segment) (lo hi : ℕ) where
   pub before-kept : (last : ℕ) → s .first < lo → last ≡ min (s .last) (lo - 1) → record { first = s .first; last = last; right = s .right } ∷ [] ≡ before lo s
@@ -24,15 +25,16 @@ module _ (s : Segment) (lo hi : ℕ) where
   unfolding after pick
   after-none h = rw (le-ltb hi (s .last) h)
 
-  pub inside-kept : (p : Segment) → s .first ≤ hi → lo ≤ s .last → p .first ≡ max (s .first) lo → p .last ≡ min (s .last) hi
-      → p .right ≡ recalledOf (s .right) → p ∷ [] ≡ inside lo hi s
-  unfolding inside pick
-  inside-kept p h k e f g = rw (le-leb (s .first) hi h, le-leb lo (s .last) k, ← e, ← f, ← g)
+  module _ (c : Change) where
+    pub inside-kept : (p : Segment) → s .first ≤ hi → lo ≤ s .last → p .first ≡ max (s .first) lo → p .last ≡ min (s .last) hi
+        → p .right ≡ changedRight c (s .right) → kept p ≡ inside c lo hi s
+    unfolding inside pick
+    inside-kept p h k e f g = rw (le-leb (s .first) hi h, le-leb lo (s .last) k, ← e, ← f, ← g)
 
-  pub inside-past : hi < s .first → [] ≡ inside lo hi s
-  unfolding inside pick
-  inside-past h = rw (lt-leb (s .first) hi h)
+    pub inside-past : hi < s .first → [] ≡ inside c lo hi s
+    unfolding inside pick
+    inside-past h = rw (lt-leb (s .first) hi h)
 
-  pub inside-under : s .first ≤ hi → s .last < lo → [] ≡ inside lo hi s
-  unfolding inside pick
-  inside-under h k = rw (le-leb (s .first) hi h, lt-leb lo (s .last) k)
+    pub inside-under : s .first ≤ hi → s .last < lo → [] ≡ inside c lo hi s
+    unfolding inside pick
+    inside-under h k = rw (le-leb (s .first) hi h, lt-leb lo (s .last) k)

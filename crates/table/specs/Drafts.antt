@@ -34,7 +34,7 @@ middleTurns Recall n = n
 abbrev pub middlePart : Change → ℕ → ℕ → Segment → List Segment
 middlePart (Grant x) lo hi s = record { first = lo; last = hi; right = Granted x } ∷ []
 middlePart Clear lo hi s = []
-middlePart Recall lo hi s = inside lo hi s
+middlePart Recall lo hi s = inside Recall lo hi s
 
 -- the segment that turn i is about, and what the turn makes of it
 unfoldable pub turnPlace : ℕ → ℕ → ℕ → ℕ

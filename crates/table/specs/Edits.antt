@@ -49,11 +49,21 @@ recalledOf None = None
 recalledOf (Granted s) = Recalled s
 recalledOf (Recalled s) = Recalled s
 
-unfoldable pub inside : ℕ → ℕ → Segment → List Segment
-inside lo hi s =
-    pick (leb (s .first) hi && leb lo (s .last))
-    (record { first = max (s .first) lo; last = min (s .last) hi; right = recalledOf (s .right) } ∷ [])
-    []
+-- the right of a byte of the range after a change
+abbrev pub changedRight : Change → Right → Right
+changedRight (Grant s) r = Granted s
+changedRight Clear r = None
+changedRight Recall r = recalledOf r
+
+-- a part, unless it has come to none
+unfoldable pub kept : Segment → List Segment
+kept s = pick (sameRight None (s .right)) [] (s ∷ [])
+
+abbrev pub cutInside : Change → ℕ → ℕ → Segment → Segment
+cutInside c lo hi s = record { first = max (s .first) lo; last = min (s .last) hi; right = changedRight c (s .right) }
+
+unfoldable pub inside : Change → ℕ → ℕ → Segment → List Segment
+inside c lo hi s = pick (leb (s .first) hi && leb lo (s .last)) (kept (cutInside c lo hi s)) []
 
 -- the parts of all segments, in order
 unfoldable pub parts : (Segment → List Segment) → List Segment → List Segment
@@ -66,7 +76,7 @@ parts g (s ∷ l) = g s ++ parts g l
 unfoldable pub middle : Change → ℕ → ℕ → List Segment → List Segment
 middle (Grant s) lo hi l = record { first = lo; last = hi; right = Granted s } ∷ []
 middle Clear lo hi l = []
-middle Recall lo hi l = parts (inside lo hi) l
+middle Recall lo hi l = parts (inside Recall lo hi) l
 
 unfoldable pub edited : Change → ℕ → ℕ → List Segment → List Segment
 edited c lo hi l = pushAll [] (parts (before lo) l ++ (middle c lo hi l ++ parts (after hi) l))

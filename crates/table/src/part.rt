@@ -1,9 +1,10 @@
 // The part of one segment before, inside or after a range.
+use crate::change::Change;
 use segments::Right;
 use segments::Segment;
 ghost use mathlib.Core.Path.{_≡_};
 ghost use Prim.Native.Nat.{max, min};
-ghost use Rattle.table.specs.Edits.{after, before, inside, recalledOf};
+ghost use Rattle.table.specs.Edits.{after, before, changedRight, inside, kept, recalledOf};
 ghost use Rattle.table.specs.Drafts.{piece};
 
 pub(crate) enum Part {
@@ -33,6 +34,26 @@ fn recalled(right: Right) -> Right
     }
 }
 
+fn changed(c: Change, right: Right) -> Right
+    ensures { λ r. ⌜ r ≡ changedRight c right ⌝ }
+{
+    match c {
+        Change::Grant(s) => Right::Granted(s),
+        Change::Clear => Right::None,
+        Change::Recall => recalled(right),
+    }
+}
+
+fn keep(s: Segment) -> Part
+    ensures { λ r. ⌜ piece r ≡ kept s ⌝ }
+{
+    let right = s.right;
+    if segments::same_right(Right::None, right) {
+        return Part::Nothing;
+    }
+    Part::Some(s)
+}
+
 pub(crate) fn part_before(s: Segment, first: u64) -> Part
     ensures { λ r. ⌜ piece r ≡ before first s ⌝ }
 {
@@ -48,16 +69,16 @@ pub(crate) fn part_before(s: Segment, first: u64) -> Part
     Part::Nothing
 }
 
-pub(crate) fn part_inside(s: Segment, first: u64, last: u64) -> Part
-    ensures { λ r. ⌜ piece r ≡ inside first last s ⌝ }
+pub(crate) fn part_inside(s: Segment, c: Change, first: u64, last: u64) -> Part
+    ensures { λ r. ⌜ piece r ≡ inside c first last s ⌝ }
 {
     if s.first <= last {
         if first <= s.last {
             let from = larger(s.first, first);
             let to = smaller(s.last, last);
             let held = s.right;
-            let right = recalled(held);
-            return Part::Some(Segment {
+            let right = changed(c, held);
+            return keep(Segment {
                 first: from,
                 last: to,
                 right,

@@ -43,7 +43,7 @@ fn part_middle(s: Segment, c: Change, first: u64, last: u64) -> Part
             Part::Some(Segment { first, last, right })
         }
         Change::Clear => Part::Nothing,
-        Change::Recall => part::part_inside(s, first, last),
+        Change::Recall => part::part_inside(s, Change::Recall, first, last),
     }
 }
 

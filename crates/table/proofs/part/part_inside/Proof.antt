@@ -1,3 +1,4 @@
+use mathlib.Core.Path.{_∙_}
 use Rattle.table.proofs.PartLaws.{inside-kept, inside-past, inside-under}
 use borrow.Author.Needs.{needs}
 use Rattle.table.proofs.part.part_inside.Statement.{statement}
@@ -9,19 +10,25 @@ larger-requires c κs = search needs
 smaller-requires : tie.Need-smaller-requires
 smaller-requires c κs = search needs
 
-recalled-requires : tie.Need-recalled-requires
-recalled-requires c κs = search needs
+changed-requires : tie.Need-changed-requires
+changed-requires c κs = search needs
+
+keep-requires : tie.Need-keep-requires
+keep-requires c κs = search needs
 
 returns : tie.Need-returns
-returns c = inside-kept (c .before .before .before .before .before .before .before .args .s) (c .before .before .before .before .before .before .before .args .first) (c .before .before .before .before .before .before .before .args .last) _ (c .before .before .before .before .before .if1 .taken) (c .before .before .before .if2 .taken) (c .before .before .larger .ensures) (c .before .smaller .ensures) (c .recalled .ensures)
+returns c =
+    let a = c .before .before .before .before .before .before .before .before .args in
+    c .keep .ensures
+    ∙ inside-kept (a .s) (a .first) (a .last) (a .c) _ (c .before .before .before .before .before .before .if1 .taken) (c .before .before .before .before .if2 .taken) (c .before .before .before .larger .ensures) (c .before .before .smaller .ensures) (c .before .changed .ensures)
 
 returns-2 : tie.Need-returns-2
-returns-2 c = inside-under (c .before .before .before .before .args .s) (c .before .before .before .before .args .first) (c .before .before .before .before .args .last) (c .before .before .if1 .taken) (c .if2 .left)
+returns-2 c = inside-under (c .before .before .before .before .args .s) (c .before .before .before .before .args .first) (c .before .before .before .before .args .last) (c .before .before .before .before .args .c) (c .before .before .if1 .taken) (c .if2 .left)
 
 returns-3 : tie.Need-returns-3
-returns-3 c = inside-past (c .before .before .args .s) (c .before .before .args .first) (c .before .before .args .last) (c .if1 .left)
+returns-3 c = inside-past (c .before .before .args .s) (c .before .before .args .first) (c .before .before .args .last) (c .before .before .args .c) (c .if1 .left)
 
 pub part-inside-spec : {M : Type 1} → statement M
 part-inside-spec =
     tie.close
-    (tie.spec larger-requires smaller-requires recalled-requires returns returns-2 returns-3)
+    (tie.spec larger-requires smaller-requires changed-requires keep-requires returns returns-2 returns-3)
