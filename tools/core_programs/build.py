@@ -18,6 +18,7 @@ PROGRAMS = ("chart", "answers")
 ARCHIVE = "driver"
 POLL = 0.5  # seconds
 UNCHANGED = 3  # seconds: no crate takes so long to be found unchanged
+BEHIND = 1  # seconds: a file's time can be a little behind the clock
 
 
 class NotBuilt(Exception):
@@ -54,7 +55,7 @@ class Progress:
         done, under_way = 0, None
         for crate in self.crates:
             log = LOGS / f"{crate}.out"
-            if not log.exists() or log.stat().st_mtime < self.started:
+            if not log.exists() or log.stat().st_mtime < self.started - BEHIND:
                 continue
             if f"rt: {crate} " in log.read_text(encoding="utf-8", errors="replace"):
                 done += 1
@@ -78,7 +79,7 @@ def run_rt(words, poll):
     """Runs rt; `poll` is called from time to time."""
     with tempfile.TemporaryFile() as output:
         try:
-            # A session of its own: the provers that it starts can be ended with it.
+            # By itself, so that the provers that it starts can be ended with it.
             to = {"stdin": subprocess.DEVNULL, "stdout": output, "stderr": output}
             rt = subprocess.Popen(["rt", *words], cwd=TOP, start_new_session=True, **to)
         except OSError as reason:
