@@ -12,13 +12,14 @@ use Rattle.segments.specs.declared.Right.the-variants.{None, Granted, Recalled}
 use Rattle.segments.specs.declared.Segment.{Segment}
 use Rattle.segments.specs.declared.Segments.{Segments}
 use Rattle.segments.specs.declared.Table.{Table}
+use Rattle.segments.specs.Segments.{kindOf, slotNumberOf}
 use Rattle.record.specs.declared.types.SegmentRecord.{SegmentRecord}
 use Rattle.record.specs.declared.types.TableRecord.{TableRecord}
-use Rattle.record.specs.Records.{itemsIn, kindOf, recordOf, rightIn, segmentIn, segmentRecord, segmentsIn, slotOf, tableIn}
+use Rattle.record.specs.Records.{itemsIn, recordOf, rightIn, segmentIn, segmentRecord, segmentsIn, tableIn}
 
 -- ---- from a table
 
-right-back : (r : Right) → rightIn (kindOf r) (slotOf r) ≡ accepted r
+right-back : (r : Right) → rightIn (kindOf r) (slotNumberOf r) ≡ accepted r
 unfolding rightIn pick
 right-back None = refl
 right-back (Granted s) = refl
@@ -39,13 +40,13 @@ table-back t = rw (items-back (t .read .items), items-back (t .rw .items))
 
 -- ---- from a record
 
-right-record : (kind slot : ℕ) (r : Right) → rightIn kind slot ≡ accepted r → (kindOf r ≡ kind) × (slotOf r ≡ slot)
+right-record : (kind slot : ℕ) (r : Right) → rightIn kind slot ≡ accepted r → (kindOf r ≡ kind) × (slotNumberOf r ≡ slot)
 unfolding rightIn pick
 right-record kind slot r e = go (eqb kind 0) (eqb slot 0) (eqb kind 1) (eqb kind 2) refl refl refl refl e
   where
     go : (a b c d : Bool) → eqb kind 0 ≡ a → eqb slot 0 ≡ b → eqb kind 1 ≡ c → eqb kind 2 ≡ d
         → pick a (pick b (accepted None) (refused 20)) (pick c (accepted (Granted record { 0 = slot })) (pick d (accepted (Recalled record { 0 = slot })) (refused 20))) ≡ accepted r
-        → (kindOf r ≡ kind) × (slotOf r ≡ slot)
+        → (kindOf r ≡ kind) × (slotNumberOf r ≡ slot)
     go true true c d ha hb hc hd k = rw (← same-answer {a = None} k) (sym (eqb-true kind 0 ha), sym (eqb-true slot 0 hb))
     go true false c d ha hb hc hd k = never-accepted 20 r k
     go false b true d ha hb hc hd k = rw (← same-answer {a = Granted record { 0 = slot }} k) (sym (eqb-true kind 1 hc), refl)

@@ -8,24 +8,14 @@ use Rattle.segments.specs.declared.Right.the-variants.{None, Granted, Recalled}
 use Rattle.segments.specs.declared.Segment.{Segment}
 use Rattle.segments.specs.declared.Segments.{Segments}
 use Rattle.segments.specs.declared.Table.{Table}
+use Rattle.segments.specs.Segments.{kindOf, slotNumberOf}
 use Rattle.record.specs.declared.types.SegmentRecord.{SegmentRecord}
 use Rattle.record.specs.declared.types.TableRecord.{TableRecord}
 
 -- ---- the record of a table
 
--- a right's kind: 0 none, 1 granted, 2 recalled
-abbrev pub kindOf : Right → ℕ
-kindOf None = 0
-kindOf (Granted s) = 1
-kindOf (Recalled s) = 2
-
-abbrev pub slotOf : Right → ℕ
-slotOf None = 0
-slotOf (Granted s) = s .0
-slotOf (Recalled s) = s .0
-
 abbrev pub segmentRecord : Segment → SegmentRecord
-segmentRecord s = record { first = s .first; last = s .last; kind = kindOf (s .right); slot = slotOf (s .right) }
+segmentRecord s = record { first = s .first; last = s .last; kind = kindOf (s .right); slot = slotNumberOf (s .right) }
 
 -- all places, used or not
 unfoldable pub recordOf : Table → TableRecord

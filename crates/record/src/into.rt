@@ -2,31 +2,10 @@
 use crate::types::SegmentRecord;
 use crate::types::TableRecord;
 use crate::types::ZEROS;
-use segments::Right;
 use segments::Segment;
 use segments::Table;
 ghost use mathlib.Core.Path.{_≡_};
-ghost use Rattle.record.specs.Records.{kindOf, recordOf, segmentRecord, slotOf};
-
-fn kind_of(right: Right) -> u32
-    ensures { λ r. ⌜ r ≡ kindOf right ⌝ }
-{
-    match right {
-        Right::None => 0,
-        Right::Granted(_) => 1,
-        Right::Recalled(_) => 2,
-    }
-}
-
-fn slot_of(right: Right) -> u32
-    ensures { λ r. ⌜ r ≡ slotOf right ⌝ }
-{
-    match right {
-        Right::None => 0,
-        Right::Granted(s) => s.0,
-        Right::Recalled(s) => s.0,
-    }
-}
+ghost use Rattle.record.specs.Records.{recordOf, segmentRecord};
 
 fn segment_record(s: Segment) -> SegmentRecord
     ensures { λ r. ⌜ r ≡ segmentRecord s ⌝ }
@@ -35,8 +14,8 @@ fn segment_record(s: Segment) -> SegmentRecord
     SegmentRecord {
         first: s.first,
         last: s.last,
-        kind: kind_of(right),
-        slot: slot_of(right),
+        kind: segments::kind_of(right),
+        slot: segments::slot_number_of(right),
     }
 }
 

@@ -1,18 +1,19 @@
 -- Lists of segments in rising order, those of them in which touching neighbours differ, and what they show at a byte.
-use Prim.Native.Nat.{ℕ, suc, _≤_, _<_}
-use mathlib.Core.Path.{_≡_, refl, sym, ap, _∙_}
+use Prim.Native.Nat.{ℕ, zero, suc, _≤_, _<_}
+use mathlib.Core.Path.{_≡_, refl, sym, ap, ap₂, _∙_}
 use mathlib.Core.Bool.{Bool, true, false, _&&_, false≢true}
 use mathlib.Core.List.{List, [], _∷_}
 use native.Mathlib.Omega.{arith}
 use native.Mathlib.Decide.{decLe}
 use borrow.Author.Tests.{le-leb, lt-leb, eqb-true, eq-eqb}
-use lib.Dec.{leb}
+use lib.Dec.{leb, eqb}
 use Rattle.base.specs.Answer.{pick}
+use Rattle.base.proofs.AnswerLaws.{both}
 use Rattle.base.specs.declared.SlotNumber.{SlotNumber}
 use Rattle.segments.specs.declared.Right.{Right}
 use Rattle.segments.specs.declared.Right.the-variants.{None, Granted, Recalled}
 use Rattle.segments.specs.declared.Segment.{Segment}
-use Rattle.segments.specs.Segments.{rightAt, sameRight}
+use Rattle.segments.specs.Segments.{kindOf, rightAt, sameRight, slotNumberOf}
 
 -- from lo on, after a segment of right r that ends right before lo: rising, and touching neighbours differ
 unfoldable pub Canon : ℕ → Right → List Segment → Type 0
@@ -42,24 +43,27 @@ granted-some i e = let z : _≡_ {A = ℕ} 0 1 = cc in omega arith
 pub recalled-some : (i : SlotNumber) → Recalled i ≡ None → ⊥
 recalled-some i e = let z : _≡_ {A = ℕ} 0 1 = cc in omega arith
 
-same-slot : (x y : SlotNumber) → x .0 ≡ y .0 → x ≡ y
-same-slot x y p = λ i. record { 0 = p i }
+-- the right of a kind under a slot
+rightOf : ℕ → ℕ → Right
+rightOf zero s = None
+rightOf (suc zero) s = Granted (record { 0 = s })
+rightOf (suc (suc k)) s = Recalled (record { 0 = s })
+
+kind-and-slot-tell : (r : Right) → rightOf (kindOf r) (slotNumberOf r) ≡ r
+unfolding rightOf
+kind-and-slot-tell None = refl
+kind-and-slot-tell (Granted s) = refl
+kind-and-slot-tell (Recalled s) = refl
 
 pub same-right-true : (a b : Right) → sameRight a b ≡ true → a ≡ b
-same-right-true None None e = refl
-same-right-true None (Granted y) e = absurd (false≢true e)
-same-right-true None (Recalled y) e = absurd (false≢true e)
-same-right-true (Granted x) None e = absurd (false≢true e)
-same-right-true (Granted x) (Granted y) e = ap Granted (same-slot x y (eqb-true (x .0) (y .0) e))
-same-right-true (Granted x) (Recalled y) e = absurd (false≢true e)
-same-right-true (Recalled x) None e = absurd (false≢true e)
-same-right-true (Recalled x) (Granted y) e = absurd (false≢true e)
-same-right-true (Recalled x) (Recalled y) e = ap Recalled (same-slot x y (eqb-true (x .0) (y .0) e))
+same-right-true a b e =
+    let u = both (eqb (kindOf a) (kindOf b)) (eqb (slotNumberOf a) (slotNumberOf b)) e in
+    sym (kind-and-slot-tell a)
+    ∙ (ap₂ rightOf (eqb-true (kindOf a) (kindOf b) (u .0)) (eqb-true (slotNumberOf a) (slotNumberOf b) (u .1))
+    ∙ kind-and-slot-tell b)
 
 pub same-right-refl : (a : Right) → sameRight a a ≡ true
-same-right-refl None = refl
-same-right-refl (Granted x) = eq-eqb (x .0) (x .0) refl
-same-right-refl (Recalled x) = eq-eqb (x .0) (x .0) refl
+same-right-refl a = rw (eq-eqb (kindOf a) (kindOf a) refl, eq-eqb (slotNumberOf a) (slotNumberOf a) refl)
 
 pub same-right-false : (a b : Right) → sameRight a b ≡ false → a ≡ b → ⊥
 same-right-false a b e p = false≢true (sym e ∙ (ap (λ (x : Right). sameRight a x) (sym p) ∙ same-right-refl a))

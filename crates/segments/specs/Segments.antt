@@ -29,17 +29,21 @@ actsOn Any m = true
 
 -- ---- rights
 
+-- which of the cases a right is: 0 none, 1 granted, 2 recalled
+abbrev pub kindOf : Right → ℕ
+kindOf None = 0
+kindOf (Granted s) = 1
+kindOf (Recalled s) = 2
+
+-- the number of the slot that a right is under; 0 where it is none
+abbrev pub slotNumberOf : Right → ℕ
+slotNumberOf None = 0
+slotNumberOf (Granted s) = s .0
+slotNumberOf (Recalled s) = s .0
+
 -- the same case under the same slot: "the same right and body", as no two slots hold one body
 abbrev pub sameRight : Right → Right → Bool
-sameRight None None = true
-sameRight None (Granted y) = false
-sameRight None (Recalled y) = false
-sameRight (Granted x) None = false
-sameRight (Granted x) (Granted y) = eqb (x .0) (y .0)
-sameRight (Granted x) (Recalled y) = false
-sameRight (Recalled x) None = false
-sameRight (Recalled x) (Granted y) = false
-sameRight (Recalled x) (Recalled y) = eqb (x .0) (y .0)
+sameRight a b = eqb (kindOf a) (kindOf b) && eqb (slotNumberOf a) (slotNumberOf b)
 
 -- whether a byte lies in the range from first to last
 abbrev pub within : ℕ → ℕ → ℕ → Bool

@@ -2,7 +2,7 @@
 use base::SlotNumber;
 ghost use mathlib.Core.Path.{_≡_};
 ghost use Prim.Native.Nat.{min};
-ghost use Rattle.segments.specs.Segments.{emptyTable, sameRight};
+ghost use Rattle.segments.specs.Segments.{emptyTable, kindOf, sameRight, slotNumberOf};
 
 // The number names the slot of the layout body under which the bytes are held.
 pub enum Right {
@@ -36,26 +36,30 @@ pub const BLANK: Segment = Segment {
     right: Right::None,
 };
 
+pub fn kind_of(right: Right) -> u32
+    ensures { λ r. ⌜ r ≡ kindOf right ⌝ }
+{
+    match right {
+        Right::None => 0,
+        Right::Granted(_) => 1,
+        Right::Recalled(_) => 2,
+    }
+}
+
+pub fn slot_number_of(right: Right) -> u32
+    ensures { λ r. ⌜ r ≡ slotNumberOf right ⌝ }
+{
+    match right {
+        Right::None => 0,
+        Right::Granted(s) => s.0,
+        Right::Recalled(s) => s.0,
+    }
+}
+
 pub fn same_right(a: Right, b: Right) -> bool
     ensures { λ r. ⌜ r ≡ sameRight a b ⌝ }
 {
-    match a {
-        Right::None => match b {
-            Right::None => true,
-            Right::Granted(_) => false,
-            Right::Recalled(_) => false,
-        },
-        Right::Granted(x) => match b {
-            Right::None => false,
-            Right::Granted(y) => x.0 == y.0,
-            Right::Recalled(_) => false,
-        },
-        Right::Recalled(x) => match b {
-            Right::None => false,
-            Right::Granted(_) => false,
-            Right::Recalled(y) => x.0 == y.0,
-        },
-    }
+    (kind_of(a) == kind_of(b)) & (slot_number_of(a) == slot_number_of(b))
 }
 
 pub fn empty_table() -> Table
