@@ -8,7 +8,6 @@ use native.Mathlib.Omega.{arith}
 use native.Mathlib.Decide.{decLe}
 use lib.ListN.{length, getD}
 use Rattle.base.specs.Ranges.{lastByte}
-use Rattle.base.specs.declared.SlotNumber.{SlotNumber}
 use Rattle.segments.specs.declared.Right.{Right}
 use Rattle.segments.specs.declared.Right.the-variants.{None, Granted, Recalled}
 use Rattle.segments.specs.declared.Segment.{Segment}
@@ -16,62 +15,31 @@ use Rattle.segments.specs.Segments.{rightAt}
 use Rattle.segments.proofs.Canon.{Below, Canon, Ord, at-in, at-none, at-past, at-under, below-past}
 use Rattle.segments.proofs.Fewest.{fewest}
 use Rattle.store.specs.Store.{Body, Slot, empty, holds}
-use Rattle.reference.specs.Model.{ByteRight, none, granted, recalled}
+use Rattle.reference.specs.Model.{ByteRight, none, granted, recalled, withSlot}
 use Rattle.reference.specs.Sound.{noTwoAlike}
 use Rattle.reference.specs.Claim.{Ordered, Showing, underSlot, withBody}
-use Rattle.reference.proofs.SlotLaws.{held-slot}
+use Rattle.reference.proofs.SoundRights.{Holds, Under, slot-forth}
 
 -- ---- rights that have a body
 
-pub granted-body : (b c : Body) → granted b ≡ granted c → b ≡ c
-granted-body b c e = cc
+-- the slot of a right that has a body holds it; c: granted or recalled
+slot-holds : (c : Body → ByteRight) (ss : List Slot) (i : ℕ) → (underSlot c (getD ss i empty) ≡ none → ⊥) → Holds ss i
+slot-holds c ss i n = go (getD ss i empty) refl n
+  where
+    go : (s : Slot) → getD ss i empty ≡ s → (underSlot c s ≡ none → ⊥) → Holds ss i
+    go empty e m = absurd (m refl)
+    go (holds b) e m = (b, e)
 
-pub recalled-body : (b c : Body) → recalled b ≡ recalled c → b ≡ c
-recalled-body b c e = cc
+body-under : (ss : List Slot) (r : Right) → (withBody ss r ≡ none → ⊥) → Under ss r
+body-under ss None n = tt
+body-under ss (Granted i) n = slot-holds granted ss (i .0) n
+body-under ss (Recalled i) n = slot-holds recalled ss (i .0) n
 
-never-both : {A : Type 0} (b c : Body) → granted b ≡ recalled c → A
-never-both b c e = let z : _≡_ {A = ℕ} 0 1 = cc in absurd (omega arith)
-
-same-slot : (i j : SlotNumber) (ss : List Slot) (b : Body) → noTwoAlike ss ≡ true → getD ss (i .0) empty ≡ holds b → getD ss (j .0) empty ≡ holds b → i ≡ j
-same-slot i j ss b a h k =
-    let p : i .0 ≡ j .0 = sym (held-slot b ss (i .0) a h) ∙ held-slot b ss (j .0) a k in
-    λ t. record { 0 = p t }
-
--- two rights under bodies are the same where their bodies are
+-- two rights under bodies are the same where their bodies are: each body leads back to its slot
 body-only : (ss : List Slot) (a b : Right) → noTwoAlike ss ≡ true → (withBody ss a ≡ none → ⊥) → withBody ss a ≡ withBody ss b → a ≡ b
-body-only ss None b apart n e = absurd (n refl)
-body-only ss (Granted i) None apart n e = absurd (n e)
-body-only ss (Recalled i) None apart n e = absurd (n e)
-body-only ss (Granted i) (Granted j) apart n e = go (getD ss (i .0) empty) (getD ss (j .0) empty) refl refl n e
-  where
-    go : (s t : Slot) → getD ss (i .0) empty ≡ s → getD ss (j .0) empty ≡ t → (underSlot granted s ≡ none → ⊥)
-        → underSlot granted s ≡ underSlot granted t → Granted i ≡ Granted j
-    go empty t h k m f = absurd (m refl)
-    go (holds b) empty h k m f = absurd (m f)
-    go (holds b) (holds c) h k m f =
-        let p : b ≡ c = granted-body b c f in
-        ap Granted (same-slot i j ss c apart (h ∙ ap holds p) k)
-body-only ss (Recalled i) (Recalled j) apart n e = go (getD ss (i .0) empty) (getD ss (j .0) empty) refl refl n e
-  where
-    go : (s t : Slot) → getD ss (i .0) empty ≡ s → getD ss (j .0) empty ≡ t → (underSlot recalled s ≡ none → ⊥)
-        → underSlot recalled s ≡ underSlot recalled t → Recalled i ≡ Recalled j
-    go empty t h k m f = absurd (m refl)
-    go (holds b) empty h k m f = absurd (m f)
-    go (holds b) (holds c) h k m f =
-        let p : b ≡ c = recalled-body b c f in
-        ap Recalled (same-slot i j ss c apart (h ∙ ap holds p) k)
-body-only ss (Granted i) (Recalled j) apart n e = go (getD ss (i .0) empty) (getD ss (j .0) empty) n e
-  where
-    go : (s t : Slot) → (underSlot granted s ≡ none → ⊥) → underSlot granted s ≡ underSlot recalled t → Granted i ≡ Recalled j
-    go empty t m f = absurd (m refl)
-    go (holds b) empty m f = absurd (m f)
-    go (holds b) (holds c) m f = never-both b c f
-body-only ss (Recalled i) (Granted j) apart n e = go (getD ss (i .0) empty) (getD ss (j .0) empty) n e
-  where
-    go : (s t : Slot) → (underSlot recalled s ≡ none → ⊥) → underSlot recalled s ≡ underSlot granted t → Recalled i ≡ Granted j
-    go empty t m f = absurd (m refl)
-    go (holds b) empty m f = absurd (m f)
-    go (holds b) (holds c) m f = never-both c b (sym f)
+body-only ss a b apart n e =
+    sym (slot-forth ss a apart (body-under ss a n))
+    ∙ (ap (withSlot ss) e ∙ slot-forth ss b apart (body-under ss b (λ z. n (e ∙ z))))
 
 -- ---- ordered lists
 
