@@ -47,13 +47,13 @@ order-canon : (lo : ℕ) (r : Right) (s : Segment) (l : List Segment) → lo ≤
 unfolding Canon apartFromNext apart
 order-canon lo r s [] a b h =
     let o = in-order s [] h in
-    (a, o .some, some-right (s .right) (o .under), b, tt)
+    (a, o .fit .some, some-right (s .right) (o .fit .under), b, tt)
 order-canon lo r s (c ∷ l) a b h =
     let o = in-order s (c ∷ l) h in
     let w = both (ltb (s .last) (c .first)) (not (eqb (suc (s .last)) (c .first) && sameRight (s .right) (c .right))) (o .next) in (
       a,
-      o .some,
-      some-right (s .right) (o .under),
+      o .fit .some,
+      some-right (s .right) (o .fit .under),
       b,
       order-canon (suc (s .last)) (s .right) c l (ltb-true (s .last) (c .first) (w .0)) (turns (not-true _ (w .1))) (o .rest),
     )
@@ -64,7 +64,7 @@ order-canon lo r s (c ∷ l) a b h =
 pub in-order-canon : (l : List Segment) → inOrder l ≡ true → Canon 0 None l
 unfolding Canon apartFromNext apart
 in-order-canon [] h = tt
-in-order-canon (s ∷ l) h = order-canon 0 None s l (omega arith) (λ e. some-right (s .right) (in-order s l h .under)) h
+in-order-canon (s ∷ l) h = order-canon 0 None s l (omega arith) (λ e. some-right (s .right) (in-order s l h .fit .under)) h
 
 pub ends-below : (N : ℕ) (l : List Segment) → Each (EndsBy N) l → Below (suc N) l
 unfolding Below

@@ -24,6 +24,7 @@ use Rattle.reference.specs.Sound.{allBlank, apart, apartFromNext, hasSlo
 use Rattle.reference.proofs.SlotLaws.{in-small}
 use Rattle.reference.specs.AnyTable.{Housed, Invariant}
 use Rattle.reference.proofs.Decode.{isHolding, list-of, named-is, shown, slot-bytes, slots-back, whole}
+use Rattle.reference.proofs.SoundParts.{fit-whole}
 
 -- ---- segments
 
@@ -46,7 +47,7 @@ canon-in-order lo r [] c h = refl
 canon-in-order lo r (s ∷ l) c h =
     let e : rightAt (s ∷ l) (s .first) ≡ s .right = at-in s l (s .first) (omega arith) (c .1) in
     let p : hasSlot (s .right) ≡ true = ap hasSlot (sym e) ∙ h (s .first) (λ k. c .2 (sym e ∙ k)) in
-    rw (le-leb (s .first) (s .last) (c .1), p, canon-apart s l (c .4))
+    rw (fit-whole s (record { some = c .1; under = p }), canon-apart s l (c .4))
     (canon-in-order (suc (s .last)) (s .right) l (c .4) (λ x n. tail x n (decLe x (s .last))))
   where
     tail : (x : ℕ) → (rightAt l x ≡ None → ⊥) → Dec (x ≤ s .last) → hasSlot (rightAt l x) ≡ true

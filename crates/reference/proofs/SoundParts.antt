@@ -5,7 +5,7 @@ use mathlib.Core.Bool.{Bool, true, false, _&&_, or-true}
 use mathlib.Core.List.{List, _∷_}
 use native.Mathlib.Omega.{arith}
 use native.Mathlib.Decide.{decLt}
-use borrow.Author.Tests.{leb-true, eqb-true}
+use borrow.Author.Tests.{le-leb, leb-true, eqb-true}
 use lib.Dec.{leb, eqb}
 use lib.ListN.{length, drop, getD}
 use Rattle.base.specs.Answer.{pick}
@@ -17,25 +17,38 @@ use Rattle.segments.specs.declared.Segments.{Segments}
 use Rattle.segments.specs.declared.Table.{Table}
 use Rattle.segments.specs.Segments.{Mode, READ, RW, anyNames, isNamed, listIn, listOf, segmentsFor}
 use Rattle.store.specs.Store.{Body, empty, holds, bodyIn, kindIn, lengthIn, slotAt}
-use Rattle.reference.specs.Sound.{allBlank, apart, apartFromNext, hasSlot, inOrder, isAccepted, noTwoAlike, segmentsSound, slotSound, slotsFrom, slotsIn, slotsSound, sound}
+use Rattle.reference.specs.Sound.{allBlank, apart, apartFromNext, hasSlot, inOrder, isAccepted, isFit, noTwoAlike, segmentsSound, slotSound, slotsFrom, slotsIn, slotsSound, sound}
 use Rattle.reference.proofs.SlotLaws.{empty-holds, held-body}
 
 -- ---- lists
 
--- the first segment of a list in order
-pub record InOrder (s : Segment) (l : List Segment) : Type 0 where
+-- one segment by itself
+pub record Fit (s : Segment) : Type 0 where
   pub some : s .first ≤ s .last
   pub under : hasSlot (s .right) ≡ true
+
+pub fit-parts : (s : Segment) → isFit s ≡ true → Fit s
+unfolding isFit
+fit-parts s h =
+    let p = both (leb (s .first) (s .last)) (hasSlot (s .right)) h in
+    record { some = leb-true (s .first) (s .last) (p .0); under = p .1 }
+
+pub fit-whole : (s : Segment) → Fit s → isFit s ≡ true
+unfolding isFit
+fit-whole s f = rw (le-leb (s .first) (s .last) (f .some), f .under)
+
+-- the first segment of a list in order
+pub record InOrder (s : Segment) (l : List Segment) : Type 0 where
+  pub fit : Fit s
   pub next : apartFromNext s l ≡ true
   pub rest : inOrder l ≡ true
 
 pub in-order : (s : Segment) (l : List Segment) → inOrder (s ∷ l) ≡ true → InOrder s l
 unfolding inOrder
 in-order s l h =
-    let p = both (leb (s .first) (s .last) && hasSlot (s .right) && apartFromNext s l) (inOrder l) h in
-    let q = both (leb (s .first) (s .last) && hasSlot (s .right)) (apartFromNext s l) (p .0) in
-    let u = both (leb (s .first) (s .last)) (hasSlot (s .right)) (q .0) in
-    record { some = leb-true (s .first) (s .last) (u .0); under = u .1; next = q .1; rest = p .1 }
+    let p = both (isFit s && apartFromNext s l) (inOrder l) h in
+    let q = both (isFit s) (apartFromNext s l) (p .0) in
+    record { fit = fit-parts s (q .0); next = q .1; rest = p .1 }
 
 pub record SoundList (g : Segments) : Type 0 where
   pub few : g .count ≤ 32

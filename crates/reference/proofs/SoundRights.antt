@@ -83,7 +83,7 @@ shown-under ss [] x h f = tt
 shown-under ss (s ∷ l) x h f =
     let o = in-order s l h in
     go (within (s .first) (s .last) x)
-    (under-right ss (s .right) (o .under) (λ i k n. f i k (rw n)))
+    (under-right ss (s .right) (o .fit .under) (λ i k n. f i k (rw n)))
     (shown-under ss l x (o .rest) (λ i k n. f i k (rw n (or-true (isOfSlot i (s .right))))))
   where
     go : (b : Bool) → Under ss (s .right) → Under ss (rightAt l x) → Under ss (pick b (s .right) (rightAt l x))

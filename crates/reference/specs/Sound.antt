@@ -32,10 +32,14 @@ unfoldable pub apartFromNext : Segment → List Segment → Bool
 apartFromNext s [] = true
 apartFromNext s (b ∷ l) = apart s b
 
+-- one segment by itself: it has a byte, and a right that a segment may have
+unfoldable pub isFit : Segment → Bool
+isFit s = leb (s .first) (s .last) && hasSlot (s .right)
+
 -- each segment by itself, and against the one behind it
 unfoldable pub inOrder : List Segment → Bool
 inOrder [] = true
-inOrder (s ∷ l) = leb (s .first) (s .last) && hasSlot (s .right) && apartFromNext s l && inOrder l
+inOrder (s ∷ l) = isFit s && apartFromNext s l && inOrder l
 
 -- "blank places blank": 0, 0 and no right
 abbrev pub isBlank : Segment → Bool

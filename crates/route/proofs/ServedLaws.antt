@@ -184,7 +184,7 @@ served-limits write t store offset len last v r s =
 
 slot-at : (l : List Segment) (k : ℕ) → inOrder l ≡ true → k < length l → hasSlot (getD l k blank .right) ≡ true
 slot-at [] k o h = absurd (omega arith)
-slot-at (s ∷ l) zero o h = in-order s l o .under
+slot-at (s ∷ l) zero o h = in-order s l o .fit .under
 slot-at (s ∷ l) (suc k) o h = slot-at l k (in-order s l o .rest) (omega arith)
 
 named-at : (l : List Segment) (k i : ℕ) → k < length l → getD l k blank .right ≡ Granted (record { 0 = i }) → anyNames i l ≡ true

@@ -6,7 +6,7 @@ use mathlib.Core.List.{List}
 use native.Mathlib.Numerals.{add-one}
 use native.Mathlib.Omega.{arith}
 use borrow.Author.Tests.{eq-eqb, eqb-false, eqb-true, le-ltb, lt-ltb, ne-eqb}
-use lib.Dec.{eqb, leb}
+use lib.Dec.{eqb}
 use lib.ListN.{length, drop, getD, drop-of-length-le}
 use lib.Seq.{drop-cons}
 use Rattle.base.specs.Answer.{pick}
@@ -15,7 +15,7 @@ use Rattle.segments.specs.declared.Segments.{Segments}
 use Rattle.segments.specs.declared.Table.{Table}
 use Rattle.segments.specs.Segments.{listOf, sameRight}
 use Rattle.lookup.proofs.LookupLaws.{next-segment}
-use Rattle.reference.specs.Sound.{allBlank, apart, apartFromNext, hasSlot, inOrder, isBlank, segmentsSound}
+use Rattle.reference.specs.Sound.{allBlank, apart, apartFromNext, inOrder, isBlank, isFit, segmentsSound}
 
 -- ---- two neighbours
 
@@ -39,8 +39,7 @@ touch a b h e =
 
 pub order-next : (g : Segments) (k : ℕ) (d : Segment) → k < length (listOf g)
     → inOrder (drop k (listOf g))
-    ≡ (leb (getD (g .items) k d .first) (getD (g .items) k d .last) && hasSlot (getD (g .items) k d .right)
-    && apartFromNext (getD (g .items) k d) (drop (k + 1) (listOf g)) && inOrder (drop (k + 1) (listOf g)))
+    ≡ (isFit (getD (g .items) k d) && apartFromNext (getD (g .items) k d) (drop (k + 1) (listOf g)) && inOrder (drop (k + 1) (listOf g)))
 unfolding inOrder
 order-next g k d h = ap inOrder (next-segment g k d h)
 

@@ -5,9 +5,9 @@ use segments::Segments;
 use segments::Table;
 ghost use mathlib.Core.Path.{_≡_};
 ghost use mathlib.Core.Bool.{_&&_};
-ghost use lib.Dec.{eqb, leb};
+ghost use lib.Dec.{eqb};
 ghost use Rattle.base.specs.Answer.{pick};
-ghost use Rattle.reference.specs.Sound.{apart, hasSlot, isBlank, segmentsSound};
+ghost use Rattle.reference.specs.Sound.{apart, hasSlot, isBlank, isFit, segmentsSound};
 
 fn has_slot(r: Right) -> bool
     ensures { λ b. ⌜ b ≡ hasSlot r ⌝ }
@@ -21,7 +21,7 @@ fn has_slot(r: Right) -> bool
 
 // One segment by itself.
 fn is_fit(s: Segment) -> bool
-    ensures { λ r. ⌜ r ≡ (leb (s .first) (s .last) && hasSlot (s .right)) ⌝ }
+    ensures { λ r. ⌜ r ≡ isFit s ⌝ }
 {
     if s.last < s.first {
         return false;
