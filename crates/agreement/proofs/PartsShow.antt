@@ -1,19 +1,22 @@
 -- What the parts of a rising list before, inside and after a range show, and lists behind each other.
 use Prim.Native.Nat.{ℕ, suc, _+_, _-_, _≤_, _<_, max, min}
 use mathlib.Core.Path.{_≡_, refl, sym, ap, _∙_}
+use mathlib.Core.Logic.{⊎-elim}
 use mathlib.Core.Bool.{Bool, true, false}
 use mathlib.Core.List.{List, [], _∷_, _++_}
 use native.Mathlib.Omega.{arith}
 use native.Mathlib.Decide.{decLe, decLt}
 use borrow.Author.Tests.{le-leb, le-ltb, lt-leb, lt-ltb}
 use Rattle.base.specs.Answer.{pick}
+use Rattle.base.specs.declared.SlotNumber.{SlotNumber}
 use Rattle.segments.specs.declared.Right.the-variants.{None, Granted}
 use Rattle.segments.specs.declared.Segment.{Segment}
 use Rattle.segments.specs.Segments.{rightAt, sameRight}
 use Rattle.segments.proofs.Canon.{Below, Ord, at-in, at-none, at-past, at-under, granted-some, ord-less, ord-under, same-right-false, same-right-true}
 use Rattle.table.specs.declared.change.Change.{Change}
-use Rattle.table.specs.declared.change.Change.the-variants.{Grant, Clear, Recall}
+use Rattle.table.specs.declared.change.Change.the-variants.{Grant}
 use Rattle.table.specs.Edits.{after, before, changedRight, cutInside, inside, kept, middle, parts}
+use Rattle.table.proofs.ChangeLaws.{KeepsNone, grants-or-keeps-none, middle-is-inside}
 use Rattle.agreement.proofs.PushShows.{at-tail}
 
 -- ---- lists behind each other
@@ -134,7 +137,7 @@ module _ (c : Change) where
   abbrev Inside : ℕ → ℕ → ℕ → List Segment → List Segment → Type 0
   Inside lo hi b l ps = Ord (max b lo) ps × Below (suc hi) ps × ((x : ℕ) → lo ≤ x → x ≤ hi → rightAt ps x ≡ changedRight c (rightAt l x))
 
-  pub inside-shows : (lo hi b : ℕ) (l : List Segment) → changedRight c None ≡ None → lo ≤ hi → Ord b l → Inside lo hi b l (parts (inside c lo hi) l)
+  pub inside-shows : (lo hi b : ℕ) (l : List Segment) → KeepsNone c → lo ≤ hi → Ord b l → Inside lo hi b l (parts (inside c lo hi) l)
   unfolding Ord Below parts
   inside-shows lo hi b [] z n o = (tt, tt, λ x h k. at-none x ∙ (sym z ∙ ap (changedRight c) (sym (at-none x))))
   inside-shows lo hi b (s ∷ l) z n o =
@@ -197,14 +200,18 @@ module _ (c : Change) where
 abbrev Middle : Change → ℕ → ℕ → List Segment → List Segment → Type 0
 Middle c lo hi l ps = Ord lo ps × Below (suc hi) ps × ((x : ℕ) → lo ≤ x → x ≤ hi → rightAt ps x ≡ changedRight c (rightAt l x))
 
-pub middle-shows : (c : Change) (lo hi : ℕ) (l : List Segment) → lo ≤ hi → Ord 0 l → Middle c lo hi l (middle c lo hi l)
+grant-shows : (i : SlotNumber) (lo hi : ℕ) (l : List Segment) → lo ≤ hi → Middle (Grant i) lo hi l (middle (Grant i) lo hi l)
 unfolding middle Ord Below
-middle-shows (Grant i) lo hi l n o = (
+grant-shows i lo hi l n = (
   (omega arith, n, granted-some i, tt),
   (omega arith, tt),
   λ x h k. at-in (record { first = lo; last = hi; right = Granted i }) [] x h k,
 )
-middle-shows Clear lo hi l n o = (tt, tt, λ x h k. at-none x)
-middle-shows Recall lo hi l n o =
-    let h = inside-shows Recall lo hi 0 l refl n o in
-    (ord-less lo (max 0 lo) (parts (inside Recall lo hi) l) (omega arith) (h .0), h .1, h .2)
+
+change-shows : (c : Change) (lo hi : ℕ) (l : List Segment) → KeepsNone c → lo ≤ hi → Ord 0 l → Middle c lo hi l (middle c lo hi l)
+change-shows c lo hi l z n o =
+    let h = inside-shows c lo hi 0 l z n o in
+    rw (middle-is-inside c z lo hi l) (ord-less lo (max 0 lo) (parts (inside c lo hi) l) (omega arith) (h .0), h .1, h .2)
+
+pub middle-shows : (c : Change) (lo hi : ℕ) (l : List Segment) → lo ≤ hi → Ord 0 l → Middle c lo hi l (middle c lo hi l)
+middle-shows c lo hi l n o = ⊎-elim (λ g. rw (g .1) (grant-shows (g .0) lo hi l n)) (λ z. change-shows c lo hi l z n o) (grants-or-keeps-none c)

@@ -1,4 +1,4 @@
--- A return or a recall of the whole file never needs more segments than there were.
+-- An edit of the whole file that is no grant never needs more segments than there were.
 use Prim.Native.Nat.{ℕ, suc, _+_, _≤_}
 use mathlib.Core.Path.{_≡_, refl, _∙_}
 use mathlib.Core.Bool.{Bool, true, false}
@@ -12,8 +12,8 @@ use Rattle.segments.specs.declared.Segment.{Segment}
 use Rattle.segments.specs.Segments.{sameRight}
 use Rattle.segments.proofs.Canon.{Below}
 use Rattle.table.specs.declared.change.Change.{Change}
-use Rattle.table.specs.declared.change.Change.the-variants.{Clear, Recall}
-use Rattle.table.specs.Edits.{after, before, changedRight, edited, inside, middle, parts, pushAll, pushSeg, pushTo, touching}
+use Rattle.table.specs.Edits.{after, before, changedRight, edited, inside, parts, pushAll, pushSeg, pushTo, touching}
+use Rattle.table.proofs.ChangeLaws.{KeepsNone, middle-is-inside}
 use Rattle.table.proofs.PushLists.{joined}
 use Rattle.agreement.proofs.PartsShow.{after-skips, before-skips, inside-cuts, inside-drops, inside-skips-past}
 
@@ -66,16 +66,9 @@ no-more-inside c hi (s ∷ l) = go (decLe (s .first) hi) (sameRight None (change
 
 -- ---- the edits
 
-pub clear-whole-empties : (hi : ℕ) (l : List Segment) → Below (suc hi) l → edited Clear 0 hi l ≡ []
-unfolding edited middle pushAll
-clear-whole-empties hi l b = rw (none-before l, none-after hi l b)
-
-pub clear-whole-needs-no-more : (hi : ℕ) (l : List Segment) → Below (suc hi) l → length (edited Clear 0 hi l) ≤ length l
-clear-whole-needs-no-more hi l b = rw (clear-whole-empties hi l b) (omega arith)
-
-pub recall-whole-needs-no-more : (hi : ℕ) (l : List Segment) → Below (suc hi) l → length (edited Recall 0 hi l) ≤ length l
-unfolding edited middle
-recall-whole-needs-no-more hi l b =
-    let h = pushAll-adds-at-most [] (parts (inside Recall 0 hi) l) in
-    let k = no-more-inside Recall hi l in
-    rw (none-before l, none-after hi l b, append-nil (parts (inside Recall 0 hi) l)) (omega arith)
+pub whole-needs-no-more : (c : Change) → KeepsNone c → (hi : ℕ) (l : List Segment) → Below (suc hi) l → length (edited c 0 hi l) ≤ length l
+unfolding edited
+whole-needs-no-more c z hi l b =
+    let h = pushAll-adds-at-most [] (parts (inside c 0 hi) l) in
+    let k = no-more-inside c hi l in
+    rw (none-before l, none-after hi l b, middle-is-inside c z 0 hi l, append-nil (parts (inside c 0 hi) l)) (omega arith)

@@ -1,5 +1,5 @@
 -- A return or a recall of the whole file, and a revoke, never need more segments than there were: they never meet 23.
-use Prim.Native.Nat.{ℕ, suc, _≤_, min}
+use Prim.Native.Nat.{ℕ, _≤_, min}
 use mathlib.Core.Path.{_≡_, refl, ap}
 use mathlib.Core.Bool.{Bool, true, false}
 use mathlib.Core.List.{List}
@@ -13,17 +13,16 @@ use Rattle.base.specs.Lists.{Each}
 use Rattle.base.specs.Ranges.{lastByte, rangeLast, toTheEnd}
 use Rattle.base.specs.declared.iomode.Iomode.{Iomode}
 use Rattle.base.specs.declared.iomode.Iomode.the-variants.{Read, ReadWrite, Any}
-use Rattle.segments.specs.declared.Segment.{Segment}
 use Rattle.segments.specs.declared.Segments.{Segments}
 use Rattle.segments.specs.declared.Table.{Table}
 use Rattle.segments.specs.Segments.{Mode, READ, RW, actsOn, listOf, segmentsFor}
-use Rattle.segments.proofs.Canon.{Below}
 use Rattle.lookup.specs.declared.range.Condition.the-variants.{Held}
 use Rattle.lookup.specs.Lookup.{satisfies, tableMeets}
 use Rattle.table.specs.declared.change.Change.{Change}
 use Rattle.table.specs.declared.change.Change.the-variants as change
 use Rattle.table.specs.Edits.{edited, editedIn, editedWhere, tableEdited}
-use Rattle.agreement.proofs.WholeEdits.{clear-whole-needs-no-more, recall-whole-needs-no-more}
+use Rattle.table.proofs.ChangeLaws.{KeepsNone}
+use Rattle.agreement.proofs.WholeEdits.{whole-needs-no-more}
 use Rattle.reference.specs.Model.{Event, Recall, Return, Revoke, recalls, returns, own, rangeOrder}
 use Rattle.reference.specs.Sound.{sound}
 use Rattle.reference.specs.AnyTable.{EndsBy}
@@ -33,19 +32,15 @@ use Rattle.events.specs.Events.{afterRecall, called, carried, obeyed, refusedWi
 
 -- ---- the edit
 
--- a change that adds no segment when it is of the whole file
-abbrev Shrinks : Change → Type 0
-Shrinks c = (l : List Segment) → Below (suc lastByte) l → length (edited c 0 lastByte l) ≤ length l
-
-module _ (c : Change) (shrinks : Shrinks c) where
+module _ (c : Change) (z : KeepsNone c) where
   edit-fits : (b : Bool) (g : Segments) → g .count ≤ 32 → Each (EndsBy lastByte) (listOf g) → editedWhere b c 0 lastByte g .fits ≡ true
   unfolding editedIn pick
   edit-fits false g few h = refl
   edit-fits true g few h =
-      let k : length (edited c 0 lastByte (listOf g)) ≤ length (listOf g) = shrinks (listOf g) (ends-below lastByte (listOf g) h) in
+      let k : length (edited c 0 lastByte (listOf g)) ≤ length (listOf g) = whole-needs-no-more c z lastByte (listOf g) (ends-below lastByte (listOf g) h) in
       let n : length (listOf g) ≡ min (g .count) (length (g .items)) = length-take (g .count) (g .items) in
-      let z : length (edited c 0 lastByte (listOf g)) ≤ 32 = omega arith in
-      rw (le-leb (length (edited c 0 lastByte (listOf g))) 32 z) refl
+      let m : length (edited c 0 lastByte (listOf g)) ≤ 32 = omega arith in
+      rw (le-leb (length (edited c 0 lastByte (listOf g))) 32 m) refl
 
   module _ (t : Table) (store : List ℕ) (judged-sound : sound t store ≡ true) (read : Each (EndsBy lastByte) (listOf (t .read))) (rw-list : Each (EndsBy lastByte) (listOf (t .rw))) where
     table-fits : (i : Iomode) → tableEdited c i 0 lastByte t .fits ≡ true
@@ -86,7 +81,7 @@ module _ (t : Table) (store : List ℕ) (read : Each (EndsBy lastByte) (listOf (
     where
       go : sound t store ≡ true → (a : Answer Iomode) → (a ≡ refused 23 → ⊥)
           → obeyed (given a λ i. accepted (record { deed = returns; iomode = i; first = 0; last = lastByte })) t store .answer ≡ 23 → ⊥
-      go s (accepted i) h e = let z = change-accepted change.Clear (λ l b. clear-whole-needs-no-more lastByte l b) t store s read rw-list i in omega (arith, e, z)
+      go s (accepted i) h e = let z = change-accepted change.Clear refl t store s read rw-list i in omega (arith, e, z)
       go s (refused n) h e = h (ap refused e)
 
   pub whole-recall : (number : ℕ) → called (Recall 0 toTheEnd number) t store .answer ≡ 23 → ⊥
@@ -95,7 +90,7 @@ module _ (t : Table) (store : List ℕ) (read : Each (EndsBy lastByte) (listOf (
     where
       held : sound t store ≡ true → (i : Iomode) (b : Bool)
           → pick b (carried change.Recall i 0 lastByte t store store) (refusedWith 25 t store) .answer ≡ 23 → ⊥
-      held s i true e = let z = change-accepted change.Recall (λ l b. recall-whole-needs-no-more lastByte l b) t store s read rw-list i in omega (arith, e, z)
+      held s i true e = let z = change-accepted change.Recall refl t store s read rw-list i in omega (arith, e, z)
       held s i false e = omega arith
 
       go : sound t store ≡ true → (a : Answer Iomode) → (a ≡ refused 23 → ⊥)
@@ -107,5 +102,5 @@ module _ (t : Table) (store : List ℕ) (read : Each (EndsBy lastByte) (listOf (
   unfolding own obeyed
   whole-revoke =
       judged Revoke λ s e.
-      let z = change-accepted change.Clear (λ l b. clear-whole-needs-no-more lastByte l b) t store s read rw-list Any in
+      let z = change-accepted change.Clear refl t store s read rw-list Any in
       omega (arith, e, z)

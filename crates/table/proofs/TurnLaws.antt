@@ -1,6 +1,6 @@
 -- Laws of the turns of an edit: after all of them the parts before the range, what stands in it and the parts after it have been pushed.
 use Prim.Native.Nat.{ℕ, _+_, _-_, _≤_, _<_, min}
-use mathlib.Core.Path.{_≡_, refl}
+use mathlib.Core.Path.{_≡_, refl, sym}
 use mathlib.Core.List.{List, [], _∷_, _++_, append-nil, append-assoc}
 use native.Mathlib.Omega.{arith}
 use native.Mathlib.Decide.{decLt}
@@ -12,6 +12,7 @@ use Rattle.table.specs.declared.change.Change.{Change}
 use Rattle.table.specs.declared.change.Change.the-variants.{Grant, Clear, Recall}
 use Rattle.table.specs.Edits.{after, before, edited, middle, parts, pushAll}
 use Rattle.table.specs.Drafts.{middlePart, middleTurns, turnPart, turnPlace}
+use Rattle.table.proofs.ChangeLaws.{clear-leaves-nothing}
 use Rattle.table.proofs.PushLists.{parts-next}
 
 -- ---- how far the three have come
@@ -97,7 +98,7 @@ middle-turns : (c : Change) (lo hi : ℕ) (l : List Segment) (n : ℕ) → lengt
 unfolding middle parts
 middle-turns (Grant x) lo hi [] n h = absurd (omega arith)
 middle-turns (Grant x) lo hi (s ∷ l) n h = refl
-middle-turns Clear lo hi l n h = refl
+middle-turns Clear lo hi l n h = sym (clear-leaves-nothing lo hi (take n l))
 middle-turns Recall lo hi l n h = refl
 
 pub turns-end : (c : Change) (lo hi : ℕ) (l : List Segment) (n m i : ℕ) → length l ≡ 32 → m ≡ middleTurns c n → i ≡ n + m + n

@@ -24,7 +24,7 @@ abbrev pub piece : Part → List Segment
 piece Nothing = []
 piece (Some s) = s ∷ []
 
--- how many turns what stands in the range takes
+-- how many turns what stands in the range takes: nothing of a clear does
 abbrev pub middleTurns : Change → ℕ → ℕ
 middleTurns (Grant x) n = 1
 middleTurns Clear n = 0
@@ -33,7 +33,7 @@ middleTurns Recall n = n
 -- what stands in the range, segment by segment
 abbrev pub middlePart : Change → ℕ → ℕ → Segment → List Segment
 middlePart (Grant x) lo hi s = record { first = lo; last = hi; right = Granted x } ∷ []
-middlePart Clear lo hi s = []
+middlePart Clear lo hi s = inside Clear lo hi s
 middlePart Recall lo hi s = inside Recall lo hi s
 
 -- the segment that turn i is about, and what the turn makes of it

@@ -72,10 +72,10 @@ parts g (s ∷ l) = g s ++ parts g l
 
 -- ---- the edits
 
--- what stands in the range afterwards
+-- what stands in the range afterwards: of a grant the whole range, of every other change the parts inside it, changed
 unfoldable pub middle : Change → ℕ → ℕ → List Segment → List Segment
 middle (Grant s) lo hi l = record { first = lo; last = hi; right = Granted s } ∷ []
-middle Clear lo hi l = []
+middle Clear lo hi l = parts (inside Clear lo hi) l
 middle Recall lo hi l = parts (inside Recall lo hi) l
 
 unfoldable pub edited : Change → ℕ → ℕ → List Segment → List Segment

@@ -1,4 +1,6 @@
+use Rattle.table.proofs.ChangeLaws.{clear-drops}
 use borrow.Author.Needs.{needs}
+use mathlib.Core.Path.{sym}
 use Rattle.table.proofs.turn.part_middle.Statement.{statement}
 use Rattle.table.proofs.turn.part_middle.Tie as tie
 
@@ -18,7 +20,7 @@ returns : tie.Need-returns
 returns c = rw (c .before .c .given .1)
 
 returns-2 : tie.Need-returns-2
-returns-2 c = search needs
+returns-2 c = rw (c .enum-told .given .1) (sym (clear-drops _ _ _))
 
 returns-3 : tie.Need-returns-3
 returns-3 c = rw (c .before .enum-told2 .given .1) (c .part-inside .ensures)
