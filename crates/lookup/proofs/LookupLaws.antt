@@ -2,11 +2,11 @@
 use Prim.Native.Nat.{ℕ, suc, _+_, _≤_, _<_, min}
 use mathlib.Core.Path.{_≡_, refl, sym, ap, _∙_}
 use mathlib.Core.Bool.{Bool, true, false, _&&_, _||_}
-use mathlib.Core.List.{List, _∷_, map}
+use mathlib.Core.List.{_∷_}
 use native.Mathlib.Numerals.{add-one}
 use native.Mathlib.Omega.{arith}
 use lib.Dec.{leb}
-use lib.ListN.{length, drop, getD, drop-of-length-le, length-map, length-take}
+use lib.ListN.{length, drop, getD, drop-of-length-le, length-take}
 use lib.Seq.{drop-cons, getD-take}
 use Rattle.segments.specs.declared.Right.{Right}
 use Rattle.segments.specs.declared.Segment.{Segment}
@@ -16,10 +16,6 @@ use Rattle.base.specs.declared.iomode.Iomode.the-variants.{Read, ReadWrite, Any
 use Rattle.segments.specs.declared.Table.{Table}
 use Rattle.segments.specs.Segments.{READ, RW, anyMeets, anyNames, isOfSlot, listIn, listOf}
 use Rattle.lookup.specs.Lookup.{tableMeets}
-
--- an array of structs is as long as what stands in it
-pub mapped-long {ℓ} : {A : Type 0} {B : Type ℓ} (f : A → B) (l : List A) (n : ℕ) → length (map f l) ≡ n → length l ≡ n
-mapped-long f l n e = sym (length-map l f) ∙ e
 
 pub length-used : (g : Segments) → length (g .items) ≡ 32 → length (listOf g) ≡ min (g .count) 32
 length-used g h = rw (length-take (g .count) (g .items), h)

@@ -3,12 +3,8 @@ use Prim.Native.Nat.{ℕ, _+_, _≤_, _<_}
 use mathlib.Core.Path.{_≡_, sym, ap, _∙_}
 use mathlib.Core.List.{List, [], _∷_, map, map-append}
 use native.Mathlib.Numerals.{add-one}
-use lib.ListN.{length, take, getD, set, length-map}
+use lib.ListN.{length, take, getD, set}
 use lib.Seq.{take-all, take-suc, take-suc-set}
-
--- the length of an array, from what is known of a parameter
-pub mapped-long {ℓ} : {A : Type 0} {B : Type ℓ} (f : A → B) (l : List A) (n : ℕ) → length (map f l) ≡ n → length l ≡ n
-mapped-long f l n e = sym (length-map l f) ∙ e
 
 module _ {A B : Type 0} (f : A → B) (l : List A) (made : List B) (i : ℕ) where
   pub map-next : (d : A) → i < length l → i < length made → take i made ≡ map f (take i l)

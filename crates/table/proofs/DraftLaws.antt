@@ -1,11 +1,11 @@
 -- Laws of drafts: what each way out of a push gives, how pushes follow each other, and the end of an edit.
 use Prim.Native.Nat.{ℕ, _+_, _-_, _≤_, _<_}
-use mathlib.Core.Path.{_≡_, refl, sym, ap, _∙_}
+use mathlib.Core.Path.{_≡_, refl, sym, ap}
 use mathlib.Core.Bool.{Bool, true, false}
-use mathlib.Core.List.{List, [], _∷_, _++_, map}
+use mathlib.Core.List.{List, [], _∷_, _++_}
 use native.Mathlib.Omega.{arith}
 use borrow.Author.Tests.{le-leb, lt-leb}
-use lib.ListN.{length, getD, set, length-map}
+use lib.ListN.{length, getD, set}
 use lib.Seq.{set-getD}
 use Rattle.base.specs.Answer.{pick}
 use Rattle.segments.specs.declared.Segment.{Segment}
@@ -17,10 +17,6 @@ use Rattle.table.specs.declared.place.Place.{Place}
 use Rattle.table.specs.Edits.{edited, editedIn, pushAll, touching}
 use Rattle.table.specs.Drafts.{Goes, Holds}
 use Rattle.table.proofs.PushLists.{joined, push-appends, push-first, push-joins, pushAll-append, pushSeg-keeps-length}
-
--- the length of an array, from what is known of a parameter
-pub mapped-long {ℓ} : {A : Type 0} {B : Type ℓ} (f : A → B) (l : List A) (n : ℕ) → length (map f l) ≡ n → length l ≡ n
-mapped-long f l n e = sym (length-map l f) ∙ e
 
 pub never-both : {b : Bool} → b ≡ false → b ≡ true → ⊥
 never-both p q = let z : _≡_ {A = ℕ} 0 1 = cc in omega arith

@@ -1,7 +1,8 @@
 -- `lookup::range::any_meets` meets its contract. The loop's invariant: no segment passed counts, so what is left decides. The measure is how many
 -- places are left.
 use Prim.Native.Nat.{_-_, _≤_, min}
-use Rattle.lookup.proofs.LookupLaws.{length-used, mapped-long, meets-next, meets-none}
+use Rattle.base.proofs.ListLaws.{mapped-long}
+use Rattle.lookup.proofs.LookupLaws.{length-used, meets-next, meets-none}
 use Rattle.lookup.specs.Lookup.{satisfies}
 use Rattle.segments.specs.Segments.{anyMeets, blank, listOf}
 use borrow.Author.Needs.{needs}

@@ -1,7 +1,8 @@
 -- `lookup::slots::mark_all` meets its contract. The loop's invariant: the segments passed are marked, and those that are left finish the work. The
 -- measure is how many places are left.
 use Prim.Native.Nat.{ℕ, _+_, _-_, _≤_, _<_, min}
-use Rattle.lookup.proofs.LookupLaws.{length-used, mapped-long}
+use Rattle.base.proofs.ListLaws.{mapped-long}
+use Rattle.lookup.proofs.LookupLaws.{length-used}
 use Rattle.lookup.proofs.NamedLaws.{marked-all, marked-next}
 use Rattle.segments.specs.Segments.{anyNames, blank, listOf}
 use borrow.Author.Needs.{needs}

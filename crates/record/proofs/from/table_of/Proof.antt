@@ -1,7 +1,7 @@
 -- `record::from::table_of` meets its contract. The loop's invariant: the records of each iomode stand for what was made of those passed, and then for
 -- what the others stand for. The measure is how many are left.
 use Prim.Native.Nat.{_-_, _≤_}
-use Rattle.record.proofs.MapLaws.{mapped-long}
+use Rattle.base.proofs.ListLaws.{mapped-long}
 use Rattle.record.proofs.RecordLaws.{Made, both-all, made-all, made-none, made-one, made-stops, none-left, none-right}
 use Rattle.record.specs.Answers.{answerOfSegment}
 use borrow.Author.Needs.{needs}

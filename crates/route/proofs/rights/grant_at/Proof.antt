@@ -2,7 +2,8 @@
 -- many places are left.
 use Prim.Native.Nat.{_-_, _≤_, min}
 use Rattle.base.proofs.AnswerLaws.{pick-false, pick-true}
-use Rattle.lookup.proofs.LookupLaws.{length-used, mapped-long}
+use Rattle.base.proofs.ListLaws.{mapped-long}
+use Rattle.lookup.proofs.LookupLaws.{length-used}
 use Rattle.route.proofs.RouteLaws.{grant-next, grant-none}
 use Rattle.route.specs.Routes.{grantAt}
 use Rattle.segments.specs.Segments.{blank, listOf}

@@ -1,7 +1,8 @@
 -- `soundness::lists::segments_sound` meets its contract. The first loop's invariant: the segments passed are in order, so what is left decides. The
 -- second one's: the flag says whether the places passed are blank. The measures are how many are left.
 use Prim.Native.Nat.{_+_, _-_, _≤_, min}
-use Rattle.lookup.proofs.LookupLaws.{length-used, mapped-long}
+use Rattle.base.proofs.ListLaws.{mapped-long}
+use Rattle.lookup.proofs.LookupLaws.{length-used}
 use Rattle.reference.specs.Sound.{allBlank, inOrder, segmentsSound}
 use Rattle.segments.specs.Segments.{blank, listOf}
 use Rattle.soundness.proofs.ListLaws.{apart-next, apart-none, blank-none, blank-passed, order-next, order-none}

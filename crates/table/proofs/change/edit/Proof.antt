@@ -1,4 +1,5 @@
-use Rattle.table.proofs.DraftLaws.{edit-fits, edit-over, mapped-long}
+use Rattle.base.proofs.ListLaws.{mapped-long}
+use Rattle.table.proofs.DraftLaws.{edit-fits, edit-over}
 use Rattle.table.proofs.PushLists.{take-within}
 use borrow.Author.Needs.{needs}
 use lib.ListN.{length}

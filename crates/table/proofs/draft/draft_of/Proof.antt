@@ -1,5 +1,6 @@
 use Prim.Native.Nat.{_+_, _-_, _≤_}
-use Rattle.table.proofs.DraftLaws.{mapped-long, turn-written}
+use Rattle.base.proofs.ListLaws.{mapped-long}
+use Rattle.table.proofs.DraftLaws.{turn-written}
 use Rattle.table.proofs.TurnLaws.{turns, turns-end, turns-next, turns-none}
 use Rattle.table.specs.Drafts.{Holds}
 use Rattle.table.specs.Edits.{pushAll}
