@@ -32,28 +32,30 @@ HomeIs revokes ss s = Unit {0}
 
 module _ (N : ℕ) where
   module _ (M : Model) (o : Order) where
-    slot-kept : (b : Body) → inSlots b (M .slots) ≡ true → anyByte N (λ m x. isUnder b (act N o M .right m x)) ≡ true
+    -- a right that the event leaves under a body names it
+    body-named : (m : Mode) (x : ℕ) (r : ByteRight) (b : Body) → x ≤ N → act N o M .right m x ≡ r → isUnder b r ≡ true
+        → anyByte N (λ m x. isUnder b (act N o M .right m x)) ≡ true
+    body-named m x r b k e u = any-byte N (λ m x. isUnder b (act N o M .right m x)) m x k (ap (isUnder b) e ∙ u)
+
+    slot-kept : (m : Mode) (x : ℕ) (r : ByteRight) (b : Body) → x ≤ N → inSlots b (M .slots) ≡ true → act N o M .right m x ≡ r → isUnder b r ≡ true
         → slotOf b (act N o M .slots) ≡ slotOf b (M .slots)
     unfolding act
-    slot-kept b h k = named-slot N (act N o M .right) b (placed (o .deed) (M .slots)) k ∙ placed-slot (o .deed) b (M .slots) h
+    slot-kept m x r b k h e u =
+        named-slot N (act N o M .right) b (placed (o .deed) (M .slots)) (body-named m x r b k e u) ∙ placed-slot (o .deed) b (M .slots) h
 
     -- a right that the event leaves keeps its slot
     right-kept : (m : Mode) (x : ℕ) (r : ByteRight) → x ≤ N → Housed (M .slots) r → act N o M .right m x ≡ r
         → withSlot (act N o M .slots) r ≡ withSlot (M .slots) r
     right-kept m x none k h e = refl
-    right-kept m x (granted b) k h e =
-        let n = any-byte N (λ m x. isUnder b (act N o M .right m x)) m x k (ap (isUnder b) e ∙ same-refl b) in
-        ap (λ (s : ℕ). Granted (record { 0 = s })) (slot-kept b h n)
-    right-kept m x (recalled b) k h e =
-        let n = any-byte N (λ m x. isUnder b (act N o M .right m x)) m x k (ap (isUnder b) e ∙ same-refl b) in
-        ap (λ (s : ℕ). Recalled (record { 0 = s })) (slot-kept b h n)
+    right-kept m x (granted b) k h e = ap (λ (s : ℕ). Granted (record { 0 = s })) (slot-kept m x (granted b) b k h e (same-refl b))
+    right-kept m x (recalled b) k h e = ap (λ (s : ℕ). Recalled (record { 0 = s })) (slot-kept m x (recalled b) b k h e (same-refl b))
 
     changed : (d : Deed) (s : ℕ) (m : Mode) (x : ℕ) (r : ByteRight) → o .deed ≡ d → HomeIs d (M .slots) s → x ≤ N → Housed (M .slots) r
         → act N o M .right m x ≡ rightAfter d r
         → withSlot (act N o M .slots) (rightAfter d r) ≡ changedRight (changeOf d s) (withSlot (M .slots) r)
     unfolding act
     changed (grants b) s m x r f g k h e =
-        let n = any-byte N (λ m x. isUnder b (act N o M .right m x)) m x k (ap (isUnder b) e ∙ same-refl b) in
+        let n = body-named m x (granted b) b k e (same-refl b) in
         let p : slotOf b (act N o M .slots) ≡ s =
         named-slot N (act N o M .right) b (placed (o .deed) (M .slots)) n ∙ (ap (λ (d : Deed). slotOf b (placed d (M .slots))) f ∙ g) in
         ap (λ (s : ℕ). Granted (record { 0 = s })) p

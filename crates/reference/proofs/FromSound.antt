@@ -15,12 +15,12 @@ use Rattle.base.proofs.AnswerLaws.{both}
 use Rattle.numbers.specs.Numbers.{AllBytes, bytesFrom, leAt, leBytes, leValue}
 use Rattle.numbers.proofs.NumberLaws.{dropped-bytes, le-back, length-bytes, taken-bytes}
 use Rattle.segments.specs.declared.Right.{Right}
-use Rattle.segments.specs.declared.Right.the-variants.{None, Granted, Recalled}
+use Rattle.segments.specs.declared.Right.the-variants.{None}
 use Rattle.segments.specs.declared.Segment.{Segment}
 use Rattle.segments.specs.declared.Segments.{Segments}
 use Rattle.segments.specs.declared.Table.{Table}
 use Rattle.segments.specs.Segments.{Mode, READ, RW, anyNames, blank, inPlaces, isNamed, isOfSlot, listIn, listOf, rightAt, sameRight, segmentsFor, segmentsOf}
-use Rattle.segments.proofs.Canon.{Below, Canon, granted-some, recalled-some, same-right-true, same-right-refl}
+use Rattle.segments.proofs.Canon.{Below, Canon, same-right-true, same-right-refl}
 use Rattle.segments.proofs.Fewest.{same-segment, scan-only}
 use Rattle.segments.proofs.ScanLaws.{any-found, segments-ext}
 use Rattle.segments.proofs.SegmentTests.{names-scan}
@@ -38,9 +38,7 @@ use Rattle.reference.proofs.SoundRights.{housed-under, of-slot-under, s
 -- ---- segments
 
 some-right : (r : Right) → hasSlot r ≡ true → r ≡ None → ⊥
-some-right None h e = false≢true h
-some-right (Granted i) h e = granted-some i e
-some-right (Recalled i) h e = recalled-some i e
+some-right r h e = false≢true (sym (ap hasSlot e) ∙ h)
 
 order-canon : (lo : ℕ) (r : Right) (s : Segment) (l : List Segment) → lo ≤ s .first → (s .first ≡ lo → s .right ≡ r → ⊥) → inOrder (s ∷ l) ≡ true
     → Canon lo r (s ∷ l)

@@ -6,7 +6,7 @@ use mathlib.Core.List.{List, [], _∷_}
 use native.Mathlib.Omega.{arith}
 use native.Mathlib.Decide.{decLe}
 use borrow.Author.Tests.{le-leb, lt-ltb, eq-eqb, eqb-true}
-use lib.Dec.{eqb}
+use lib.Dec.{eqb, ltb}
 use lib.ListN.{length, getD, replicate}
 use lib.Seq.{drop-append-seam}
 use Rattle.base.specs.Lists.{padded}
@@ -16,10 +16,10 @@ use Rattle.segments.specs.declared.Segment.{Segment}
 use Rattle.segments.specs.Segments.{Mode, READ, RW, blank, inPlaces, rightAt, sameRight}
 use Rattle.segments.proofs.Canon.{Canon, at-in, at-past, canon-under, same-right-true}
 use Rattle.segments.proofs.ScanLaws.{segments-canon, segments-past}
-use Rattle.store.specs.Store.{Slot, empty, holds, slotBytes, storeOf}
+use Rattle.store.specs.Store.{Body, Slot, empty, holds, slotBytes, storeOf}
 use Rattle.store.proofs.SlotLaws.{body-back, empty-zero, kind-holds, length-holds, zeros-after}
 use Rattle.store.proofs.StoreLaws.{length-store}
-use Rattle.reference.specs.Model.{ByteRight, none, granted, recalled, Model, segmentsIn, slotOf, tableOf, withSlot}
+use Rattle.reference.specs.Model.{ByteRight, none, granted, recalled, Model, inSlots, segmentsIn, slotOf, tableOf, withSlot}
 use Rattle.reference.specs.Sound.{allBlank, apart, apartFromNext, hasSlot, inOrder, segmentsSound, slotSound, slotsSound, sound}
 use Rattle.reference.proofs.SlotLaws.{in-small}
 use Rattle.reference.specs.AnyTable.{Housed, Invariant}
@@ -67,16 +67,16 @@ places-sound l h o =
     rw (le-leb (length l) 32 h, list-of l, o, drop-append-seam l (replicate (32 - length l) blank)) (blanks (32 - length l))
 
 module _ (N : ℕ) (M : Model) (v : Invariant N M) where
+  slot-small : (b : Body) → inSlots b (M .slots) ≡ true → ltb (slotOf b (M .slots)) 8 ≡ true
+  slot-small b h =
+      let k : length (M .slots) ≡ 8 = v .eight in
+      let i = in-small b (M .slots) h in
+      lt-ltb (slotOf b (M .slots)) 8 (omega arith)
+
   housed-slot : (r : ByteRight) → Housed (M .slots) r → (withSlot (M .slots) r ≡ None → ⊥) → hasSlot (withSlot (M .slots) r) ≡ true
   housed-slot none h n = absurd (n refl)
-  housed-slot (granted b) h n =
-      let k : length (M .slots) ≡ 8 = v .eight in
-      let i = in-small b (M .slots) h in
-      lt-ltb (slotOf b (M .slots)) 8 (omega arith)
-  housed-slot (recalled b) h n =
-      let k : length (M .slots) ≡ 8 = v .eight in
-      let i = in-small b (M .slots) h in
-      lt-ltb (slotOf b (M .slots)) 8 (omega arith)
+  housed-slot (granted b) h n = slot-small b h
+  housed-slot (recalled b) h n = slot-small b h
 
   shown-slot : (m : Mode) (x : ℕ) → (rightAt (segmentsIn N M m) x ≡ None → ⊥) → hasSlot (rightAt (segmentsIn N M m) x) ≡ true
   unfolding segmentsIn
