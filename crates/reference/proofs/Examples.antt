@@ -25,9 +25,9 @@ use Rattle.reference.proofs.ShortFiles.{allStay, example-longer, stays,
 -- what a case says of a file of the bytes 0 to N
 abbrev pub HoldsOn : ℕ → Case → Type 0
 HoldsOn N c =
-    (answers N (c .events) start ≡ c .numbers)
-    × (segmentsIn N (run N (c .events) start) READ ≡ c .read)
-    × (segmentsIn N (run N (c .events) start) RW ≡ c .rw)
+    (answers N own (c .events) start ≡ c .numbers)
+    × (segmentsIn N (run N own (c .events) start) READ ≡ c .read)
+    × (segmentsIn N (run N own (c .events) start) RW ≡ c .rw)
 
 -- whether no grant of a case goes past byte N
 abbrev pub staysBelow : ℕ → Case → Bool

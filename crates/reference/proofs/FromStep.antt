@@ -17,16 +17,16 @@ use Rattle.segments.specs.Segments.{Mode, emptyTable, listIn, rightAt}
 use Rattle.segments.proofs.Canon.{Below, Canon, at-in, at-past, canon-under}
 use Rattle.segments.proofs.ScanLaws.{segments-below, segments-past}
 use Rattle.store.specs.Store.{Slot, empty, slotBytes, storeOf}
-use Rattle.reference.specs.Model.{none, Event, Model, Order, act, afterAt, answerTo, answers, ifAccepted, modelAfter, own, run, segmentsIn, start, tableOf, verdict, withSlot}
+use Rattle.reference.specs.Model.{none, Event, Model, Order, act, afterAt, answerTo, answers, ifAccepted, modelAfter, run, segmentsIn, start, tableOf, verdict, withSlot}
 use Rattle.reference.specs.Sound.{slotsIn}
-use Rattle.reference.specs.Claim.{Agreed, Calls, Confined, Demand3, EachConfined, Fits, Ordered, Showing, acceptedOf, answered, inReach, rightGiven, rightIn, storeLeft, tableLeft, withBody}
+use Rattle.reference.specs.Claim.{Agreed, Calls, Confined, Demand3, EachConfined, Fits, Ordered, Showing, acceptedOf, answered, inReach, keptLeft, rightGiven, rightIn, storeLeft, withBody}
 use Rattle.reference.proofs.Laws.{run-right}
 use Rattle.reference.proofs.Bodies.{fewest-showing}
 use Rattle.reference.specs.AnyTable.{Invariant, leftBy}
-use Rattle.reference.proofs.Inv.{after-keeps, no-segments, start-keeps}
+use Rattle.reference.proofs.Inv.{GoodOrder, after-keeps, no-segments, start-keeps}
 use Rattle.reference.proofs.Decode.{list-in, right-back, shown, slots-back, with-back}
 use Rattle.reference.proofs.SoundLaws.{model-canon}
-use Rattle.reference.proofs.OwnLaws.{own-small}
+use Rattle.reference.proofs.OwnLaws.{Reads}
 
 -- ---- the start
 
@@ -46,13 +46,14 @@ start-store = empty-store 8
 
 -- ---- events keep the invariant
 
-pub event-keeps : (N : ℕ) (e : Event) (M : Model) → Fits e → Invariant N M → Invariant N (modelAfter N (own e) M)
-event-keeps N e M f v = after-keeps N (own e) M (own-small e f) v
+module _ {reads : Event → Answer Order} (good : Reads reads) (N : ℕ) where
+  pub event-keeps : (e : Event) (M : Model) → Fits e → Invariant N M → Invariant N (modelAfter N (reads e) M)
+  event-keeps e M f v = after-keeps N (reads e) M (good .small e f) v
 
-pub run-keeps : (N : ℕ) (es : List Event) (M : Model) → Each Fits es → Invariant N M → Invariant N (run N es M)
-unfolding run
-run-keeps N [] M f v = v
-run-keeps N (e ∷ es) M f v = run-keeps N es (modelAfter N (own e) M) (f .1) (event-keeps N e M (f .0) v)
+  pub run-keeps : (es : List Event) (M : Model) → Each Fits es → Invariant N M → Invariant N (run N reads es M)
+  unfolding run
+  run-keeps [] M f v = v
+  run-keeps (e ∷ es) M f v = run-keeps es (modelAfter N (reads e) M) (f .1) (event-keeps e M (f .0) v)
 
 -- ---- an event changes no right outside its reach, and a refused one changes nothing
 
@@ -74,17 +75,21 @@ refused-still N (accepted o) M h = go (verdict N o M) h
     go zero k = absurd (k refl)
     go (suc n) k = refl
 
-confined-step : (e : Event) (M : Model) → Fits e → Invariant lastByte M → Confined e (tableOf lastByte M) (storeOf (M .slots)) (leftBy e M)
+-- keep: what is kept of a model, in which its table stands
+confined-step : {K : Type 0} (table : K → Table) (keep : Model → K) → ((M : Model) → table (keep M) ≡ tableOf lastByte M)
+    → (a : Answer Order) (M : Model) → GoodOrder a → Invariant lastByte M
+    → Confined table a (keep M) (storeOf (M .slots)) (leftBy keep a M)
 unfolding leftBy
-confined-step e M f v =
-    let M' = modelAfter lastByte (own e) M in
+confined-step table keep shows a M g v =
+    let M' = modelAfter lastByte a M in
     record {
-      elsewhere = λ a m x h k.
-          right-back lastByte M' (event-keeps lastByte e M f v) m x h
-          ∙ (outside lastByte (own e) M m x k ∙ sym (right-back lastByte M v m x h));
+      elsewhere = λ n m x h k.
+          rw (shows M', shows M)
+          (right-back lastByte M' (after-keeps lastByte a M g v) m x h
+          ∙ (outside lastByte a M m x k ∙ sym (right-back lastByte M v m x h)));
       unchanged = λ n.
-          let s : M' ≡ M = refused-still lastByte (own e) M n in
-          (ap (tableOf lastByte) s, ap (λ (X : Model). storeOf (X .slots)) s);
+          let s : M' ≡ M = refused-still lastByte a M n in
+          (ap keep s, ap (λ (X : Model). storeOf (X .slots)) s);
     }
 
 -- ---- the model's lists show its rights
@@ -132,64 +137,72 @@ module _ (M : Model) (v : Invariant lastByte M) where
         shows = λ x h. ap (withBody (M .slots)) (shown lastByte M m x h) ∙ with-back (M .slots) (M .right m x) (v .housed m x h);
       }
 
-  -- demand 3 of what a list of calls leaves, where that is the model's
-  agreed : (call : Calls) (es : List Event) (got : List ℕ) (t : Table) (store : List ℕ)
-      → got ≡ answers lastByte es start → t ≡ tableOf lastByte M → store ≡ storeOf (M .slots) → EachConfined call es emptyTable (replicate 32768 0)
-      → ((m : Mode) (x : ℕ) → M .right m x ≡ rightGiven (acceptedOf es (answers lastByte es start)) m x none)
-      → Agreed call es got t store M
-  agreed call es got t store g p q c r =
-      let rights-given : (m : Mode) (x : ℕ) → M .right m x ≡ rightGiven (acceptedOf es got) m x none =
-      λ m x. r m x ∙ ap (λ (ns : List ℕ). rightGiven (acceptedOf es ns) m x none) (sym g) in
-      let back : slotsIn t store ≡ M .slots = ap₂ slotsIn p q ∙ slots-back lastByte M v in
-      let list : (m : Mode) → listIn t m ≡ segmentsIn lastByte M m = λ m. ap (λ (X : Table). listIn X m) p ∙ list-in lastByte M m in
-      record {
-        same-answers = g;
-        rights = λ m x h. ap₂ (λ (X : Table) (s : List ℕ). rightIn X s m x) p q ∙ (right-back lastByte M v m x h ∙ rights-given m x);
-        same-rights = λ m x h. rights-given m x;
-        confined = c;
-        same-table = p;
-        same-slots = back;
-        shows = λ m. rw (back, list m) (model-shows m);
-        fewest = λ m l k n.
-            rw (list m)
-            (fewest-showing (M .slots) (M .right m) (segmentsIn lastByte M m) l (v .apart) (model-canon lastByte M v m) (model-shows m) (rw back at k) (λ e. n (e ∙ sym (list m))));
-        same-store = q;
-      }
-
 -- ---- a list of calls
 
-module _ (call : Calls) (steps : (e : Event) (M : Model) → Fits e → Invariant lastByte M → call e (tableOf lastByte M) (storeOf (M .slots)) ≡ leftBy e M) where
-  -- what the calls leave is the model's
-  abbrev Follows : List Event → Table → List ℕ → Model → Type 0
-  Follows es t store M =
-      (answered call es t store ≡ answers lastByte es M)
-      × (tableLeft call es t store ≡ tableOf lastByte (run lastByte es M))
-      × (storeLeft call es t store ≡ storeOf (run lastByte es M .slots))
-      × EachConfined call es t store
+-- keep: what is kept of a model, in which its table stands
+module _ {K : Type 0} (table : K → Table) (first : K) {reads : Event → Answer Order} (good : Reads reads) (call : Calls K) (keep : Model → K)
+    (shows : (M : Model) → table (keep M) ≡ tableOf lastByte M)
+    (starts : keep start ≡ first)
+    (steps : (e : Event) (M : Model) → Fits e → Invariant lastByte M → call e (keep M) (storeOf (M .slots)) ≡ leftBy keep (reads e) M)
+  where
+    -- what the calls leave is the model's
+    abbrev Follows : List Event → K → List ℕ → Model → Type 0
+    Follows es k store M =
+        (answered call es k store ≡ answers lastByte reads es M)
+        × (keptLeft call es k store ≡ keep (run lastByte reads es M))
+        × (storeLeft call es k store ≡ storeOf (run lastByte reads es M .slots))
+        × EachConfined table reads call es k store
 
-  follows : (es : List Event) (M : Model) → Each Fits es → Invariant lastByte M → Follows es (tableOf lastByte M) (storeOf (M .slots)) M
-  unfolding answered tableLeft storeLeft EachConfined answers run leftBy
-  follows [] M f v = (refl, refl, refl, tt)
-  follows (e ∷ es) M f v =
-      let M' = modelAfter lastByte (own e) M in
-      let r = follows es M' (f .1) (event-keeps lastByte e M (f .0) v) in
-      rw (steps e M (f .0) v) (
-        ap (λ (ns : List ℕ). answerTo lastByte (own e) M ∷ ns) (r .0),
-        r .1,
-        r .2,
-        (confined-step e M (f .0) v, r .3),
-      )
+    follows : (es : List Event) (M : Model) → Each Fits es → Invariant lastByte M → Follows es (keep M) (storeOf (M .slots)) M
+    unfolding answered keptLeft storeLeft EachConfined answers run leftBy
+    follows [] M f v = (refl, refl, refl, tt)
+    follows (e ∷ es) M f v =
+        let M' = modelAfter lastByte (reads e) M in
+        let r = follows es M' (f .1) (event-keeps good lastByte e M (f .0) v) in
+        rw (steps e M (f .0) v) (
+          ap (λ (ns : List ℕ). answerTo lastByte (reads e) M ∷ ns) (r .0),
+          r .1,
+          r .2,
+          (confined-step table keep shows (reads e) M (good .small e (f .0)) v, r .3),
+        )
 
-  follows-from : (t : Table) (store : List ℕ) (es : List Event) (M : Model) → t ≡ tableOf lastByte M → store ≡ storeOf (M .slots) → Each Fits es → Invariant lastByte M
-      → Follows es t store M
-  follows-from t store es M p q f v = rw (p, q) (follows es M f v)
+    from-start : (es : List Event) → Each Fits es → Follows es first (replicate 32768 0) start
+    from-start es f = rw (← starts, ← start-store) (follows es start f (start-keeps lastByte))
 
-  pub demand-3 : Demand3 call
-  demand-3 es f =
-      let w = follows-from emptyTable (replicate 32768 0) es start (sym (start-table lastByte)) (sym start-store) f (start-keeps lastByte) in
-      agreed (run lastByte es start) (run-keeps lastByte es start f (start-keeps lastByte)) call es
-      (answered call es emptyTable (replicate 32768 0))
-      (tableLeft call es emptyTable (replicate 32768 0))
-      (storeLeft call es emptyTable (replicate 32768 0))
-      (w .0) (w .1) (w .2) (w .3)
-      (λ m x. run-right lastByte es start m x)
+    -- what is kept after a list is what is kept of the model
+    pub kept-left : (es : List Event) → Each Fits es → keptLeft call es first (replicate 32768 0) ≡ keep (run lastByte reads es start)
+    kept-left es f = from-start es f .1
+
+    module _ (es : List Event) (f : Each Fits es) where
+      abbrev M : Model
+      M = run lastByte reads es start
+
+      kept : Invariant lastByte M
+      kept = run-keeps good lastByte es start f (start-keeps lastByte)
+
+      agreed : (got : List ℕ) (t : Table) (store : List ℕ) → got ≡ answers lastByte reads es start → t ≡ tableOf lastByte M → store ≡ storeOf (M .slots)
+          → EachConfined table reads call es first (replicate 32768 0)
+          → Agreed table first reads call es got t store M
+      agreed got t store g p q c =
+          let rights-given : (m : Mode) (x : ℕ) → M .right m x ≡ rightGiven (acceptedOf reads es got) m x none =
+          λ m x. run-right lastByte reads es start m x ∙ ap (λ (ns : List ℕ). rightGiven (acceptedOf reads es ns) m x none) (sym g) in
+          let back : slotsIn t store ≡ M .slots = ap₂ slotsIn p q ∙ slots-back lastByte M kept in
+          let list : (m : Mode) → listIn t m ≡ segmentsIn lastByte M m = λ m. ap (λ (X : Table). listIn X m) p ∙ list-in lastByte M m in
+          record {
+            same-answers = g;
+            rights = λ m x h. ap₂ (λ (X : Table) (s : List ℕ). rightIn X s m x) p q ∙ (right-back lastByte M kept m x h ∙ rights-given m x);
+            same-rights = λ m x h. rights-given m x;
+            confined = c;
+            same-table = p;
+            same-slots = back;
+            shows = λ m. rw (back, list m) (model-shows M kept m);
+            fewest = λ m l k n.
+                rw (list m)
+                (fewest-showing (M .slots) (M .right m) (segmentsIn lastByte M m) l (kept .apart) (model-canon lastByte M kept m) (model-shows M kept m) (rw back at k) (λ e. n (e ∙ sym (list m))));
+            same-store = q;
+          }
+
+    pub demand-3 : Demand3 table first reads call
+    demand-3 es f =
+        let w = from-start es f in
+        agreed es f _ _ _ (w .0) (ap table (w .1) ∙ shows (run lastByte reads es start)) (w .2) (w .3)

@@ -4,7 +4,7 @@ use mathlib.Core.Path.{_≡_, refl, sym, ap, _∙_}
 use mathlib.Core.List.{List, [], _∷_, _++_}
 use Rattle.base.specs.Answer.{Answer, accepted, refused}
 use Rattle.segments.specs.Segments.{Mode}
-use Rattle.reference.specs.Model.{ByteRight, Event, Model, Order, act, afterAt, answerTo, answers, ifAccepted, modelAfter, own, run, verdict}
+use Rattle.reference.specs.Model.{ByteRight, Event, Model, Order, act, afterAt, answerTo, answers, ifAccepted, modelAfter, run, verdict}
 use Rattle.reference.specs.Claim.{acceptedOf, orderOf, rightGiven}
 
 given-append : (os ps : List Order) (m : Mode) (x : ℕ) (r : ByteRight) → rightGiven (os ++ ps) m x r ≡ rightGiven ps m x (rightGiven os m x r)
@@ -23,12 +23,12 @@ right-after N (accepted o) M m x = go (verdict N o M)
     go (suc n) = refl
 right-after N (refused n) M m x = refl
 
-pub run-right : (N : ℕ) (es : List Event) (M : Model) (m : Mode) (x : ℕ)
-    → run N es M .right m x ≡ rightGiven (acceptedOf es (answers N es M)) m x (M .right m x)
+pub run-right : (N : ℕ) (reads : Event → Answer Order) (es : List Event) (M : Model) (m : Mode) (x : ℕ)
+    → run N reads es M .right m x ≡ rightGiven (acceptedOf reads es (answers N reads es M)) m x (M .right m x)
 unfolding run answers acceptedOf rightGiven
-run-right N [] M m x = refl
-run-right N (e ∷ es) M m x =
-    let M' = modelAfter N (own e) M in
-    run-right N es M' m x
-    ∙ (ap (rightGiven (acceptedOf es (answers N es M')) m x) (right-after N (own e) M m x)
-    ∙ sym (given-append (orderOf (own e) (answerTo N (own e) M)) (acceptedOf es (answers N es M')) m x (M .right m x)))
+run-right N reads [] M m x = refl
+run-right N reads (e ∷ es) M m x =
+    let M' = modelAfter N (reads e) M in
+    run-right N reads es M' m x
+    ∙ (ap (rightGiven (acceptedOf reads es (answers N reads es M')) m x) (right-after N (reads e) M m x)
+    ∙ sym (given-append (orderOf (reads e) (answerTo N (reads e) M)) (acceptedOf reads es (answers N reads es M')) m x (M .right m x)))

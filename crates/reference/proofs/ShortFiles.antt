@@ -163,20 +163,20 @@ module _ (N L : ℕ) (longer : N ≤ L) where
 
   -- a list of events
   pub run-longer : (es : List Event) (M : Model) → allStay N es ≡ true → Quiet (M .right)
-      → (answers N es M ≡ answers L es M) × (run N es M ≡ run L es M) × Quiet (run N es M .right)
+      → (answers N own es M ≡ answers L own es M) × (run N own es M ≡ run L own es M) × Quiet (run N own es M .right)
   unfolding answers run allStay
   run-longer [] M s q = (refl, refl, q)
   run-longer (e ∷ es) M s q =
       let p = both (stays N (own e)) (allStay N es) s in
       let a = after-longer (own e) M (p .0) q in
       let r = run-longer es (modelAfter N (own e) M) (p .1) (a .1) in (
-        ap₂ {C = List ℕ} (λ n ns. n ∷ ns) (answer-longer (own e) M (p .0) q) (r .0 ∙ ap (answers L es) (a .0)),
-        r .1 ∙ ap (run L es) (a .0),
+        ap₂ {C = List ℕ} (λ n ns. n ∷ ns) (answer-longer (own e) M (p .0) q) (r .0 ∙ ap (answers L own es) (a .0)),
+        r .1 ∙ ap (run L own es) (a .0),
         r .2,
       )
 
   pub example-longer : (es : List Event) → allStay N es ≡ true
-      → (answers N es start ≡ answers L es start) × ((m : Mode) → segmentsIn N (run N es start) m ≡ segmentsIn L (run L es start) m)
+      → (answers N own es start ≡ answers L own es start) × ((m : Mode) → segmentsIn N (run N own es start) m ≡ segmentsIn L (run L own es start) m)
   example-longer es s =
       let r = run-longer es start s (λ m x h k. refl) in
-      (r .0, λ m. segments-alike (run N es start) m (r .2) ∙ ap (λ (M : Model). segmentsIn L M m) (r .1))
+      (r .0, λ m. segments-alike (run N own es start) m (r .2) ∙ ap (λ (M : Model). segmentsIn L M m) (r .1))

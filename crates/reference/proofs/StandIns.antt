@@ -24,11 +24,12 @@ use Rattle.segments.proofs.Canon.{Below, Canon, at-in, at-none, granted-some}
 use Rattle.segments.proofs.Fewest.{scan-only}
 use Rattle.segments.proofs.ScanLaws.{any-none}
 use Rattle.store.specs.Store.{Body, Slot}
-use Rattle.reference.specs.Model.{ByteRight, none, granted, Model, Event, Revoke, Order, act, afterAt, answerTo, answers, anyByte, covers, grantOrder, grants, inSlots, meets, modelAfter, noneEmpty, own, revokes, segmentsIn, slotOf, start, stops21, stops22, tooMany, verdict, withSlot}
-use Rattle.reference.specs.Claim.{Calls, Demand3, CallResult, Fits, acceptedOf, answered, orderOf, rightGiven, rightIn, storeLeft, tableLeft}
+use Rattle.reference.specs.Model.{ByteRight, none, granted, Model, Event, Revoke, Order, act, afterAt, answerTo, answers, anyByte, covers, grantOrder, grants, inSlots, meets, modelAfter, noneEmpty, own, revokes, run, segmentsIn, slotOf, start, stops21, stops22, tooMany, verdict, withSlot}
+use Rattle.reference.specs.Claim.{Calls, Demand3, CallResult, Fits, acceptedOf, answered, keptLeft, orderOf, rightGiven, rightIn, storeLeft}
 use Rattle.reference.specs.Cases.{bodyOf, grantBytes, grantOf, grantedIn, servers}
 use Rattle.reference.specs.StandIns.{changesNothing, firstOnly, refusesAll}
 use Rattle.reference.proofs.Inv.{no-segments}
+use Rattle.reference.proofs.FromStep.{start-table}
 
 -- ---- at the start the model accepts a grant of every byte
 
@@ -107,11 +108,11 @@ whole-file-granted : answerTo lastByte (own wholeFile) start ≡ 0
 unfolding answerTo
 whole-file-granted = rw whole-file-read (every-byte-granted lastByte (bodyOf 0 1 0))
 
-whole-file-accepted : answers lastByte (wholeFile ∷ []) start ≡ 0 ∷ []
+whole-file-accepted : answers lastByte own (wholeFile ∷ []) start ≡ 0 ∷ []
 unfolding answers
 whole-file-accepted = ap (λ (n : ℕ). n ∷ []) whole-file-granted
 
-both-accepted : answers lastByte (wholeFile ∷ Revoke ∷ []) start ≡ 0 ∷ 0 ∷ []
+both-accepted : answers lastByte own (wholeFile ∷ Revoke ∷ []) start ≡ 0 ∷ 0 ∷ []
 unfolding answers answerTo own
 both-accepted = ap₂ (λ (n k : ℕ). n ∷ k ∷ []) whole-file-granted (revoke-accepted lastByte (modelAfter lastByte (own wholeFile) start))
 
@@ -139,11 +140,11 @@ whole-file-revoke-fits = (whole-file-fits .0, (tt, tt))
 
 -- ---- rights that the events give, and that a table shows
 
-granted-by-it : rightGiven (acceptedOf (wholeFile ∷ []) (0 ∷ [])) RW 0 none ≡ granted (bodyOf 0 1 0)
+granted-by-it : rightGiven (acceptedOf own (wholeFile ∷ []) (0 ∷ [])) RW 0 none ≡ granted (bodyOf 0 1 0)
 unfolding rightGiven acceptedOf orderOf afterAt covers pick
 granted-by-it = rw whole-file-read refl
 
-revoked-behind-it : rightGiven (acceptedOf (wholeFile ∷ Revoke ∷ []) (0 ∷ 0 ∷ [])) RW 0 none ≡ none
+revoked-behind-it : rightGiven (acceptedOf own (wholeFile ∷ Revoke ∷ []) (0 ∷ 0 ∷ [])) RW 0 none ≡ none
 unfolding rightGiven acceptedOf orderOf afterAt covers pick own
 revoked-behind-it = rw whole-file-read refl
 
@@ -154,52 +155,60 @@ no-right-shown t store x h = rw h
 granted-not-none : (b : Body) → granted b ≡ none → ⊥
 granted-not-none b e = let z : _≡_ {A = ℕ} 0 1 = cc in omega arith
 
--- what meets demand 3 shows the right after the grant
-right-shown : (call : Calls) → Demand3 call
-    → rightIn (tableLeft call (wholeFile ∷ []) emptyTable (replicate 32768 0)) (storeLeft call (wholeFile ∷ []) emptyTable (replicate 32768 0)) RW 0
-    ≡ granted (bodyOf 0 1 0)
-right-shown call d =
-    let a = d (wholeFile ∷ []) whole-file-fits in
-    a .rights RW 0 (omega arith)
-    ∙ (ap (λ (ns : List ℕ). rightGiven (acceptedOf (wholeFile ∷ []) ns) RW 0 none) (a .same-answers ∙ whole-file-accepted) ∙ granted-by-it)
-
 -- ---- the stand-ins
 
-pub refuses-all-falls : (number : Event → Table → List ℕ → ℕ) → ((e : Event) (t : Table) (store : List ℕ) → number e t store ≡ 0 → ⊥)
-    → Demand3 (refusesAll number) → ⊥
-unfolding answered
-refuses-all-falls number h d =
-    h wholeFile emptyTable (replicate 32768 0) (ap (λ (ns : List ℕ). getD ns 0 0) (d (wholeFile ∷ []) whole-file-fits .same-answers ∙ whole-file-accepted))
+module _ {K : Type 0} (table : K → Table) (first : K) where
+  -- what meets demand 3 shows no right before any event
+  first-empty : (call : Calls K) → Demand3 table first own call → table first ≡ emptyTable
+  unfolding keptLeft run
+  first-empty call d = d [] tt .same-table ∙ start-table lastByte
 
-pub changes-nothing-falls : (call : Calls) → Demand3 (changesNothing call) → ⊥
-unfolding tableLeft storeLeft emptyTable inPlaces
-changes-nothing-falls call d =
-    granted-not-none (bodyOf 0 1 0) (sym (right-shown (changesNothing call) d) ∙ no-right-shown emptyTable (replicate 32768 0) 0 refl)
+  -- and the granted one after the grant
+  right-shown : (call : Calls K) → Demand3 table first own call
+      → rightIn (table (keptLeft call (wholeFile ∷ []) first (replicate 32768 0))) (storeLeft call (wholeFile ∷ []) first (replicate 32768 0)) RW 0
+      ≡ granted (bodyOf 0 1 0)
+  right-shown call d =
+      let a = d (wholeFile ∷ []) whole-file-fits in
+      a .rights RW 0 (omega arith)
+      ∙ (ap (λ (ns : List ℕ). rightGiven (acceptedOf own (wholeFile ∷ []) ns) RW 0 none) (a .same-answers ∙ whole-file-accepted) ∙ granted-by-it)
 
-module _ (call later : Calls) (d : Demand3 (firstOnly call later)) where
-  -- what the grant leaves
-  abbrev first : CallResult
-  first = firstOnly call later wholeFile emptyTable (replicate 32768 0)
+  pub refuses-all-falls : (number : Event → K → List ℕ → ℕ) → ((e : Event) (k : K) (store : List ℕ) → number e k store ≡ 0 → ⊥)
+      → Demand3 table first own (refusesAll number) → ⊥
+  unfolding answered
+  refuses-all-falls number h d =
+      h wholeFile first (replicate 32768 0) (ap (λ (ns : List ℕ). getD ns 0 0) (d (wholeFile ∷ []) whole-file-fits .same-answers ∙ whole-file-accepted))
 
-  first-shows : rightIn (first .table) (first .store) RW 0 ≡ granted (bodyOf 0 1 0)
-  unfolding tableLeft storeLeft
-  first-shows = right-shown (firstOnly call later) d
+  pub changes-nothing-falls : (call : Calls K) → Demand3 table first own (changesNothing call) → ⊥
+  unfolding keptLeft storeLeft emptyTable inPlaces
+  changes-nothing-falls call d =
+      granted-not-none (bodyOf 0 1 0)
+      (sym (right-shown (changesNothing call) d)
+      ∙ no-right-shown (table first) (replicate 32768 0) 0 (ap (λ (t : Table). t .rw .count) (first-empty (changesNothing call) d)))
 
-  second-ignored : firstOnly call later Revoke (first .table) (first .store)
-      ≡ record { answer = later Revoke (first .table) (first .store) .answer; table = first .table; store = first .store }
-  unfolding pick
-  second-ignored =
-      rw
-      (ne-eqb (first .table .rw .count) 0 (λ e. granted-not-none (bodyOf 0 1 0) (sym first-shows ∙ no-right-shown (first .table) (first .store) 0 e)), and-false)
+  module _ (call later : Calls K) (d : Demand3 table first own (firstOnly table call later)) where
+    -- what the grant leaves
+    abbrev after : CallResult K
+    after = firstOnly table call later wholeFile first (replicate 32768 0)
 
-  still-shows : rightIn (tableLeft (firstOnly call later) (wholeFile ∷ Revoke ∷ []) emptyTable (replicate 32768 0)) (storeLeft (firstOnly call later) (wholeFile ∷ Revoke ∷ []) emptyTable (replicate 32768 0)) RW 0 ≡ granted (bodyOf 0 1 0)
-  unfolding tableLeft storeLeft
-  still-shows = ap (λ (l : CallResult). rightIn (l .table) (l .store) RW 0) second-ignored ∙ first-shows
+    grant-shows : rightIn (table (after .kept)) (after .store) RW 0 ≡ granted (bodyOf 0 1 0)
+    unfolding keptLeft storeLeft
+    grant-shows = right-shown (firstOnly table call later) d
 
-pub first-only-falls : (call later : Calls) → Demand3 (firstOnly call later) → ⊥
-first-only-falls call later d =
-    let a = d (wholeFile ∷ Revoke ∷ []) whole-file-revoke-fits in
-    granted-not-none (bodyOf 0 1 0)
-    (sym (still-shows call later d)
-    ∙ (a .rights RW 0 (omega arith)
-    ∙ (ap (λ (ns : List ℕ). rightGiven (acceptedOf (wholeFile ∷ Revoke ∷ []) ns) RW 0 none) (a .same-answers ∙ both-accepted) ∙ revoked-behind-it)))
+    second-ignored : firstOnly table call later Revoke (after .kept) (after .store)
+        ≡ record { answer = later Revoke (after .kept) (after .store) .answer; kept = after .kept; store = after .store }
+    unfolding pick
+    second-ignored =
+        rw
+        (ne-eqb (table (after .kept) .rw .count) 0 (λ e. granted-not-none (bodyOf 0 1 0) (sym grant-shows ∙ no-right-shown (table (after .kept)) (after .store) 0 e)), and-false)
+
+    still-shows : rightIn (table (keptLeft (firstOnly table call later) (wholeFile ∷ Revoke ∷ []) first (replicate 32768 0))) (storeLeft (firstOnly table call later) (wholeFile ∷ Revoke ∷ []) first (replicate 32768 0)) RW 0 ≡ granted (bodyOf 0 1 0)
+    unfolding keptLeft storeLeft
+    still-shows = ap (λ (l : CallResult K). rightIn (table (l .kept)) (l .store) RW 0) second-ignored ∙ grant-shows
+
+  pub first-only-falls : (call later : Calls K) → Demand3 table first own (firstOnly table call later) → ⊥
+  first-only-falls call later d =
+      let a = d (wholeFile ∷ Revoke ∷ []) whole-file-revoke-fits in
+      granted-not-none (bodyOf 0 1 0)
+      (sym (still-shows call later d)
+      ∙ (a .rights RW 0 (omega arith)
+      ∙ (ap (λ (ns : List ℕ). rightGiven (acceptedOf own (wholeFile ∷ Revoke ∷ []) ns) RW 0 none) (a .same-answers ∙ both-accepted) ∙ revoked-behind-it)))

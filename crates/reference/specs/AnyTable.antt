@@ -4,6 +4,7 @@ use mathlib.Core.Path.{_≡_}
 use mathlib.Core.Bool.{true}
 use mathlib.Core.List.{List}
 use lib.ListN.{length, getD}
+use Rattle.base.specs.Answer.{Answer}
 use Rattle.base.specs.Lists.{Each}
 use Rattle.base.specs.Ranges.{lastByte}
 use Rattle.numbers.specs.Numbers.{AllBytes}
@@ -12,7 +13,7 @@ use Rattle.segments.specs.declared.Segment.{Segment}
 use Rattle.segments.specs.declared.Table.{Table}
 use Rattle.segments.specs.Segments.{Mode, listIn, segmentsFor}
 use Rattle.store.specs.Store.{Body, Slot, empty, holds, storeOf}
-use Rattle.reference.specs.Model.{ByteRight, none, granted, recalled, Event, Model, answerTo, anyByte, inSlots, isUnder, modelAfter, own, segmentsIn, tableOf}
+use Rattle.reference.specs.Model.{ByteRight, none, granted, recalled, Model, Order, answerTo, anyByte, inSlots, isUnder, modelAfter, segmentsIn, tableOf}
 use Rattle.reference.specs.Sound.{isAccepted, noTwoAlike, slotsIn}
 use Rattle.reference.specs.Claim.{CallResult, rightIn}
 
@@ -66,10 +67,11 @@ pub record OfModel (t : Table) (store : List ℕ) : Type 0 where
 
 -- ---- its step
 
--- the model's answer to an event, and the table and the store of the model after it
-unfoldable pub leftBy : Event → Model → CallResult
-leftBy e M = record {
-  answer = answerTo lastByte (own e) M;
-  table = tableOf lastByte (modelAfter lastByte (own e) M);
-  store = storeOf (modelAfter lastByte (own e) M .slots);
+-- the model's answer to an event, and what is kept of the model after it, with its store. a: the event, read; keep: what
+-- is kept of a model, such as its table.
+unfoldable pub leftBy : {K : Type 0} → (Model → K) → Answer Order → Model → CallResult K
+leftBy keep a M = record {
+  answer = answerTo lastByte a M;
+  kept = keep (modelAfter lastByte a M);
+  store = storeOf (modelAfter lastByte a M .slots);
 }

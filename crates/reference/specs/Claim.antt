@@ -1,4 +1,5 @@
--- Demand 3, stated of any calls on table and body store.
+-- Demand 3, stated of any calls on what is kept of a file and a body store. What is kept is of some type K, and a
+-- table is read off it: it is a table, or holds one.
 use Prim.Native.Nat.{ℕ, suc, _≤_, _<_, _^_}
 use mathlib.Core.Path.{_≡_}
 use mathlib.Core.Bool.{Bool, false}
@@ -12,20 +13,20 @@ use Rattle.segments.specs.declared.Right.{Right}
 use Rattle.segments.specs.declared.Right.the-variants.{None, Granted, Recalled}
 use Rattle.segments.specs.declared.Segment.{Segment}
 use Rattle.segments.specs.declared.Table.{Table}
-use Rattle.segments.specs.Segments.{Mode, emptyTable, listIn, rightAt}
+use Rattle.segments.specs.Segments.{Mode, listIn, rightAt}
 use Rattle.store.specs.Store.{Slot, empty, holds, storeOf, Body}
-use Rattle.reference.specs.Model.{ByteRight, none, granted, recalled, Model, start, Event, Grant, Return, Recall, Revoke, Order, own, covers, afterAt, ifAccepted, answers, run, tableOf}
+use Rattle.reference.specs.Model.{ByteRight, none, granted, recalled, Model, start, Event, Grant, Return, Recall, Revoke, Order, covers, afterAt, ifAccepted, answers, run, tableOf}
 use Rattle.reference.specs.Sound.{slotsIn}
 
--- what a call gives: its answer (0 for accepted), the table and the store
-pub record CallResult : Type 0 where
+-- what a call gives: its answer (0 for accepted), what is kept of the file, and the store
+pub record CallResult (K : Type 0) : Type 0 where
   pub answer : ℕ
-  pub table : Table
+  pub kept : K
   pub store : List ℕ
 
--- a call for each event, on a table and a store
-abbrev pub Calls : Type 0
-Calls = Event → Table → List ℕ → CallResult
+-- a call for each event, on what is kept and a store
+abbrev pub Calls : Type 0 → Type 0
+Calls K = Event → K → List ℕ → CallResult K
 
 -- ---- events as the calls' types have them: a grant's bytes are bytes, an offset is below 2^64 (any length and iomode number will do)
 
@@ -59,10 +60,10 @@ orderOf (accepted o) answer = ifAccepted answer (o ∷ []) []
 orderOf (refused n) answer = []
 
 -- the orders of the accepted events of a list
-unfoldable pub acceptedOf : List Event → List ℕ → List Order
-acceptedOf [] ns = []
-acceptedOf (e ∷ es) [] = []
-acceptedOf (e ∷ es) (n ∷ ns) = orderOf (own e) n ++ acceptedOf es ns
+unfoldable pub acceptedOf : (Event → Answer Order) → List Event → List ℕ → List Order
+acceptedOf reads [] ns = []
+acceptedOf reads (e ∷ es) [] = []
+acceptedOf reads (e ∷ es) (n ∷ ns) = orderOf (reads e) n ++ acceptedOf reads es ns
 
 -- "the right that the accepted events covering that byte and iomode give, taken in order"
 unfoldable pub rightGiven : List Order → Mode → ℕ → ByteRight → ByteRight
@@ -88,65 +89,71 @@ pub record Showing (ss : List Slot) (right : ℕ → ByteRight) (l : List Segmen
 
 -- ---- a list of calls, "each handed the table and shelf that the last one left"
 
-module _ (call : Calls) where
-  -- the answers, and the table and the store that the last call leaves
-  unfoldable pub answered : List Event → Table → List ℕ → List ℕ
-  answered [] t store = []
-  answered (e ∷ es) t store = call e t store .answer ∷ answered es (call e t store .table) (call e t store .store)
+module _ {K : Type 0} (call : Calls K) where
+  -- the answers, and what the last call leaves: what is kept, and the store
+  unfoldable pub answered : List Event → K → List ℕ → List ℕ
+  answered [] k store = []
+  answered (e ∷ es) k store = call e k store .answer ∷ answered es (call e k store .kept) (call e k store .store)
 
-  unfoldable pub tableLeft : List Event → Table → List ℕ → Table
-  tableLeft [] t store = t
-  tableLeft (e ∷ es) t store = tableLeft es (call e t store .table) (call e t store .store)
+  unfoldable pub keptLeft : List Event → K → List ℕ → K
+  keptLeft [] k store = k
+  keptLeft (e ∷ es) k store = keptLeft es (call e k store .kept) (call e k store .store)
 
-  unfoldable pub storeLeft : List Event → Table → List ℕ → List ℕ
-  storeLeft [] t store = store
-  storeLeft (e ∷ es) t store = storeLeft es (call e t store .table) (call e t store .store)
+  unfoldable pub storeLeft : List Event → K → List ℕ → List ℕ
+  storeLeft [] k store = store
+  storeLeft (e ∷ es) k store = storeLeft es (call e k store .kept) (call e k store .store)
 
 -- whether an event covers a byte and iomode
 abbrev pub inReach : Answer Order → Mode → ℕ → Bool
 inReach (accepted o) m x = covers o m x
 inReach (refused n) m x = false
 
--- "An accepted event changes no right outside its range and iomode; a refused one changes nothing."
-pub record Confined (e : Event) (t : Table) (store : List ℕ) (l : CallResult) : Type 0 where
-  pub elsewhere : l .answer ≡ 0 → (m : Mode) (x : ℕ) → x ≤ lastByte → inReach (own e) m x ≡ false
-      → rightIn (l .table) (l .store) m x ≡ rightIn t store m x
-  pub unchanged : (l .answer ≡ 0 → ⊥) → (l .table ≡ t) × (l .store ≡ store)
+module _ {K : Type 0} (table : K → Table) where
+  -- "An accepted event changes no right outside its range and iomode; a refused one changes nothing." a: the event, read.
+  pub record Confined (a : Answer Order) (k : K) (store : List ℕ) (l : CallResult K) : Type 0 where
+    pub elsewhere : l .answer ≡ 0 → (m : Mode) (x : ℕ) → x ≤ lastByte → inReach a m x ≡ false
+        → rightIn (table (l .kept)) (l .store) m x ≡ rightIn (table k) store m x
+    pub unchanged : (l .answer ≡ 0 → ⊥) → (l .kept ≡ k) × (l .store ≡ store)
 
-unfoldable pub EachConfined : Calls → List Event → Table → List ℕ → Type 0
-EachConfined call [] t store = Unit {0}
-EachConfined call (e ∷ es) t store =
-    Confined e t store (call e t store)
-    × EachConfined call es (call e t store .table) (call e t store .store)
+  unfoldable pub EachConfined : (Event → Answer Order) → Calls K → List Event → K → List ℕ → Type 0
+  EachConfined reads call [] k store = Unit {0}
+  EachConfined reads call (e ∷ es) k store =
+      Confined (reads e) k store (call e k store)
+      × EachConfined reads call es (call e k store .kept) (call e k store .store)
 
--- What demand 3 says of one list of events. got: the calls' answers; t, store: what they leave; M: the reference model after the list.
-pub record Agreed (call : Calls) (es : List Event) (got : List ℕ) (t : Table) (store : List ℕ) (M : Model) : Type 0 where
-  -- "Each is accepted, or refused with its number, exactly when the scope paper's ledger does so on the same list."
-  pub same-answers : got ≡ answers lastByte es start
-  -- "every byte of the file has, in each iomode, the right that the accepted events covering that byte and iomode give, taken in order"
-  pub rights : (m : Mode) (x : ℕ) → x ≤ lastByte → rightIn t store m x ≡ rightGiven (acceptedOf es got) m x none
-  -- "and the ledger shows the same"
-  pub same-rights : (m : Mode) (x : ℕ) → x ≤ lastByte → M .right m x ≡ rightGiven (acceptedOf es got) m x none
-  -- "An accepted event changes no right outside its range and iomode; a refused one changes nothing."
-  pub confined : EachConfined call es emptyTable (replicate 32768 0)
-  -- "The table kept is the one worked out afresh from those rights and the ledger's slots."
-  pub same-table : t ≡ tableOf lastByte M
-  -- and those are the slots that table and store show
-  pub same-slots : slotsIn t store ≡ M .slots
-  -- "In each iomode it is the ordered list of segments that shows them, each with its layout body,"
-  pub shows : (m : Mode) → Showing (slotsIn t store) (M .right m) (listIn t m)
-  -- "and every other such list has more segments."
-  pub fewest : (m : Mode) (l : List Segment) → Showing (slotsIn t store) (M .right m) l
-      → (l ≡ listIn t m → ⊥) → length (listIn t m) < length l
-  -- "The shelf's bytes are the ledger's."
-  pub same-store : store ≡ storeOf (M .slots)
+-- table: the table in what is kept; first: what is kept before the first event, with an empty table in it (`same-table`
+-- says so of the empty list); reads: how an event's own bytes and numbers are read. Of the calls on tables these are the
+-- table itself, `emptyTable` and `own`.
+module _ {K : Type 0} (table : K → Table) (first : K) (reads : Event → Answer Order) (call : Calls K) where
+  -- What demand 3 says of one list of events. got: the calls' answers; t, store: what they leave; M: the reference
+  -- model after the list.
+  pub record Agreed (es : List Event) (got : List ℕ) (t : Table) (store : List ℕ) (M : Model) : Type 0 where
+    -- "Each is accepted, or refused with its number, exactly when the scope paper's ledger does so on the same list."
+    pub same-answers : got ≡ answers lastByte reads es start
+    -- "every byte of the file has, in each iomode, the right that the accepted events covering that byte and iomode give, taken in order"
+    pub rights : (m : Mode) (x : ℕ) → x ≤ lastByte → rightIn t store m x ≡ rightGiven (acceptedOf reads es got) m x none
+    -- "and the ledger shows the same"
+    pub same-rights : (m : Mode) (x : ℕ) → x ≤ lastByte → M .right m x ≡ rightGiven (acceptedOf reads es got) m x none
+    -- "An accepted event changes no right outside its range and iomode; a refused one changes nothing."
+    pub confined : EachConfined table reads call es first (replicate 32768 0)
+    -- "The table kept is the one worked out afresh from those rights and the ledger's slots."
+    pub same-table : t ≡ tableOf lastByte M
+    -- and those are the slots that table and store show
+    pub same-slots : slotsIn t store ≡ M .slots
+    -- "In each iomode it is the ordered list of segments that shows them, each with its layout body,"
+    pub shows : (m : Mode) → Showing (slotsIn t store) (M .right m) (listIn t m)
+    -- "and every other such list has more segments."
+    pub fewest : (m : Mode) (l : List Segment) → Showing (slotsIn t store) (M .right m) l
+        → (l ≡ listIn t m → ⊥) → length (listIn t m) < length l
+    -- "The shelf's bytes are the ledger's."
+    pub same-store : store ≡ storeOf (M .slots)
 
--- "Start from an empty table and a zeroed shelf .. For every list of grants, returns, recalls and revokes, refused ones among them, .. this
--- holds."
-abbrev pub Demand3 : Calls → Type 0
-Demand3 call = (es : List Event) → Each Fits es
-    → Agreed call es
-    (answered call es emptyTable (replicate 32768 0))
-    (tableLeft call es emptyTable (replicate 32768 0))
-    (storeLeft call es emptyTable (replicate 32768 0))
-    (run lastByte es start)
+  -- "Start from an empty table and a zeroed shelf .. For every list of grants, returns, recalls and revokes, refused ones among them, .. this
+  -- holds."
+  abbrev pub Demand3 : Type 0
+  Demand3 = (es : List Event) → Each Fits es
+      → Agreed es
+      (answered call es first (replicate 32768 0))
+      (table (keptLeft call es first (replicate 32768 0)))
+      (storeLeft call es first (replicate 32768 0))
+      (run lastByte reads es start)

@@ -242,14 +242,15 @@ module _ (N : ℕ) where
   modelAfter (refused n) M = M
   modelAfter (accepted o) M = ifAccepted (verdict o M) (act o M) M
 
-  -- a list of events: the answers, and the model after the last
-  unfoldable pub answers : List Event → Model → List ℕ
-  answers [] M = []
-  answers (e ∷ es) M = answerTo (own e) M ∷ answers es (modelAfter (own e) M)
+  -- a list of events: the answers, and the model after the last; reads: how an event's own bytes and numbers are read
+  module _ (reads : Event → Answer Order) where
+    unfoldable pub answers : List Event → Model → List ℕ
+    answers [] M = []
+    answers (e ∷ es) M = answerTo (reads e) M ∷ answers es (modelAfter (reads e) M)
 
-  unfoldable pub run : List Event → Model → Model
-  run [] M = M
-  run (e ∷ es) M = run es (modelAfter (own e) M)
+    unfoldable pub run : List Event → Model → Model
+    run [] M = M
+    run (e ∷ es) M = run es (modelAfter (reads e) M)
 
   -- "and the table's other places blank"
   unfoldable pub tableOf : Model → Table

@@ -8,17 +8,18 @@ use Rattle.segments.specs.declared.Table.{Table}
 use Rattle.reference.specs.Model.{Event}
 use Rattle.reference.specs.Claim.{Calls}
 
--- refuses every event, with a number that may depend on event, table and store
-abbrev pub refusesAll : (Event → Table → List ℕ → ℕ) → Calls
-refusesAll number e t store = record { answer = number e t store; table = t; store = store }
+module _ {K : Type 0} where
+  -- refuses every event, with a number that may depend on event, what is kept and store
+  abbrev pub refusesAll : (Event → K → List ℕ → ℕ) → Calls K
+  refusesAll number e k store = record { answer = number e k store; kept = k; store = store }
 
--- answers as the calls do, and changes nothing
-abbrev pub changesNothing : Calls → Calls
-changesNothing call e t store = record { answer = call e t store .answer; table = t; store = store }
+  -- answers as the calls do, and changes nothing
+  abbrev pub changesNothing : Calls K → Calls K
+  changesNothing call e k store = record { answer = call e k store .answer; kept = k; store = store }
 
--- obeys while no byte is held; afterwards it answers as others do and changes nothing
-abbrev pub firstOnly : Calls → Calls → Calls
-firstOnly call later e t store =
-    pick (eqb (t .read .count) 0 && eqb (t .rw .count) 0)
-    (call e t store)
-    (record { answer = later e t store .answer; table = t; store = store })
+  -- obeys while no byte is held; afterwards it answers as others do and changes nothing
+  abbrev pub firstOnly : (K → Table) → Calls K → Calls K → Calls K
+  firstOnly table call later e k store =
+      pick (eqb (table k .read .count) 0 && eqb (table k .rw .count) 0)
+      (call e k store)
+      (record { answer = later e k store .answer; kept = k; store = store })
