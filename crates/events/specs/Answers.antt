@@ -5,6 +5,7 @@ use Rattle.base.specs.Refusals.{numberOf}
 use Rattle.base.specs.Answer.{Answer, accepted, refused}
 use Rattle.base.specs.declared.refusal.Refusal.{Refusal}
 use Rattle.base.specs.declared.refusal.Refusal.the-variants.{RangeInvalid}
+use Rattle.segments.specs.declared.Table.{Table}
 use Rattle.reference.specs.Model.{Deed, Order}
 use Rattle.reference.specs.Claim.{CallResult}
 use Rattle.events.specs.declared.outcome.Outcome.{Outcome}
@@ -18,8 +19,8 @@ numberOfVerdict Accepted = 0
 numberOfVerdict (Refused e) = numberOf e
 
 -- an outcome and the store after it
-abbrev pub resultOf : Outcome → List ℕ → CallResult
-resultOf o store = record { answer = numberOfVerdict (o .verdict); table = o .table; store = store }
+abbrev pub resultOf : Outcome → List ℕ → CallResult Table
+resultOf o store = record { answer = numberOfVerdict (o .verdict); kept = o .table; store = store }
 
 -- the order of a return or a recall
 abbrev pub orderOfSpan : Deed → ReadSpan → Answer Order
