@@ -3,29 +3,30 @@ use Prim.Native.Nat.{_≤_}
 use mathlib.Core.Path.{_≡_, refl}
 use Rattle.base.specs.Answer.{Answer, accepted, refused, pick}
 use Rattle.base.specs.Ranges.{lastByte}
+use Rattle.segments.specs.Segments.{emptyTable}
 use Rattle.store.specs.Store.{storeOf}
 use Rattle.reference.specs.Model.{Event, Model, Order, answerTo, modelAfter, own, tableOf}
 use Rattle.reference.specs.Claim.{Demand3, Fits}
 use Rattle.reference.specs.AnyTable.{Invariant, leftBy}
 use Rattle.reference.proofs.Inv.{GoodOrder}
 use Rattle.reference.proofs.SoundLaws.{model-sound}
-use Rattle.reference.proofs.OwnLaws.{own-range, own-small}
-use Rattle.reference.proofs.FromStep.{demand-3}
+use Rattle.reference.proofs.OwnLaws.{own-reads}
+use Rattle.reference.proofs.FromStep.{demand-3, start-table}
 use Rattle.events.specs.Events.{called, obeyed}
 use Rattle.agreement.proofs.StepLaws.{order-met}
 
 -- an event whose own bytes and numbers are read
 obeyed-met : (a : Answer Order) (M : Model) → GoodOrder a
     → ((o : Order) → a ≡ accepted o → (o .first ≤ o .last) × (o .last ≤ lastByte)) → Invariant lastByte M
-    → obeyed a (tableOf lastByte M) (storeOf (M .slots))
-    ≡ record { answer = answerTo lastByte a M; table = tableOf lastByte (modelAfter lastByte a M); store = storeOf (modelAfter lastByte a M .slots) }
-unfolding obeyed answerTo modelAfter
+    → obeyed a (tableOf lastByte M) (storeOf (M .slots)) ≡ leftBy (tableOf lastByte) a M
+unfolding obeyed answerTo modelAfter leftBy
 obeyed-met (refused n) M g r v = refl
 obeyed-met (accepted o) M g r v = let h = r o refl in order-met lastByte M o v g (h .0) (h .1)
 
-pub step-met : (e : Event) (M : Model) → Fits e → Invariant lastByte M → called e (tableOf lastByte M) (storeOf (M .slots)) ≡ leftBy e M
-unfolding called leftBy pick
-step-met e M f v = rw (model-sound lastByte M v) (obeyed-met (own e) M (own-small e f) (λ o h. own-range e o f h) v)
+pub step-met : (e : Event) (M : Model) → Fits e → Invariant lastByte M
+    → called e (tableOf lastByte M) (storeOf (M .slots)) ≡ leftBy (tableOf lastByte) (own e) M
+unfolding called pick
+step-met e M f v = rw (model-sound lastByte M v) (obeyed-met (own e) M (own-reads .small e f) (λ o h. own-reads .range e o f h) v)
 
-pub calls-meet-demand-3 : Demand3 called
-calls-meet-demand-3 = demand-3 called step-met
+pub calls-meet-demand-3 : Demand3 (λ t. t) emptyTable own called
+calls-meet-demand-3 = demand-3 (λ t. t) emptyTable own-reads called (tableOf lastByte) (λ M. refl) (start-table lastByte) step-met

@@ -12,6 +12,7 @@ use Rattle.base.specs.declared.iomode.Iomode.{Iomode}
 use Rattle.numbers.specs.Numbers.{sameBytes}
 use Rattle.numbers.proofs.SameLaws.{same-not, same-other, same-true}
 use Rattle.segments.specs.declared.Right.the-variants as right
+use Rattle.segments.specs.declared.Table.{Table}
 use Rattle.segments.specs.Segments.{Mode, READ, RW, anyBelow}
 use Rattle.segments.proofs.ScanLaws.{any-none}
 use Rattle.lookup.specs.declared.range.Condition.the-variants.{Held, HeldElsewhere, Recalled}
@@ -85,8 +86,8 @@ no-home ss b e f = rw (e, f)
 -- ---- the change
 
 -- what an event that is answered n leaves
-abbrev pub ended : ℕ → Order → Model → ℕ → CallResult
-ended N o M n = record { answer = n; table = tableOf N (ifAccepted n (act N o M) M); store = storeOf (ifAccepted n (act N o M) M .slots) }
+abbrev pub ended : ℕ → Order → Model → ℕ → CallResult Table
+ended N o M n = record { answer = n; kept = tableOf N (ifAccepted n (act N o M) M); store = storeOf (ifAccepted n (act N o M) M .slots) }
 
 fits-placed : (N : ℕ) (M : Model) (d : Deed) → Invariant N M → GoodDeed d → Fitting (placed d (M .slots))
 fits-placed N M d v g i b e = ⊎-elim (λ h. v .good i b h .small) (λ h. brought h g) (placed-held d b (M .slots) i e)
@@ -116,7 +117,7 @@ module _ (N : ℕ) (M : Model) (o : Order) (v : Invariant N M) (good : GoodDeed 
           (pick t (record { table = tableOf N M; fits = false }) (record { table = tableOf N (act N o M); fits = true }))
           ≡ ended N o M (refuse 23 t 0)
       go true p = refl
-      go false p = λ i. record { answer = 0; table = tableOf N (act N o M); store = store-cleared (act-keeps N o M good (p refl) v) i }
+      go false p = λ i. record { answer = 0; kept = tableOf N (act N o M); store = store-cleared (act-keeps N o M good (p refl) v) i }
 
 -- ---- each deed
 

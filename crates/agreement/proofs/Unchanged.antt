@@ -18,9 +18,10 @@ use Rattle.table.specs.Edits.{tableEdited}
 use Rattle.store.specs.Store.{Body, holds, slotSet}
 use Rattle.reference.specs.Model.{Deed, Event, Order, grants, own, recalls, returns, revokes, run, start}
 use Rattle.reference.specs.Sound.{slotsIn, sound}
-use Rattle.reference.specs.Claim.{CallResult, Fits, storeLeft, tableLeft}
+use Rattle.reference.specs.Claim.{CallResult, Fits, keptLeft, storeLeft}
 use Rattle.reference.proofs.Inv.{start-keeps}
 use Rattle.reference.proofs.SoundLaws.{model-sound}
+use Rattle.reference.proofs.OwnLaws.{own-reads}
 use Rattle.reference.proofs.FromStep.{run-keeps}
 use Rattle.slots.specs.declared.home.Home.{Home}
 use Rattle.slots.specs.declared.home.Home.the-variants.{Old, New, Nowhere}
@@ -29,13 +30,13 @@ use Rattle.events.specs.Events.{afterGrant, afterRecall, byDeed, called, carrie
 use Rattle.agreement.proofs.Demand.{calls-meet-demand-3}
 
 module _ (t : Table) (store : List ℕ) where
-  abbrev Unchanged : CallResult → Type 0
-  Unchanged l = (l .answer ≡ 0 → ⊥) → (l .table ≡ t) × (l .store ≡ store)
+  abbrev Unchanged : CallResult Table → Type 0
+  Unchanged l = (l .answer ≡ 0 → ⊥) → (l .kept ≡ t) × (l .store ≡ store)
 
   refused-keeps : (n : ℕ) → Unchanged (refusedWith n t store)
   refused-keeps n h = (refl, refl)
 
-  either : (b : Bool) (l k : CallResult) → Unchanged l → Unchanged k → Unchanged (pick b l k)
+  either : (b : Bool) (l k : CallResult Table) → Unchanged l → Unchanged k → Unchanged (pick b l k)
   unfolding pick
   either true l k u w = u
   either false l k u w = w
@@ -65,13 +66,13 @@ module _ (t : Table) (store : List ℕ) where
   order-keeps (accepted o) = deed-keeps (o .deed) o
   order-keeps (refused n) = refused-keeps n
 
-  pub refusal-keeps : (e : Event) → (called e t store .answer ≡ 0 → ⊥) → (called e t store .table ≡ t) × (called e t store .store ≡ store)
+  pub refusal-keeps : (e : Event) → (called e t store .answer ≡ 0 → ⊥) → (called e t store .kept ≡ t) × (called e t store .store ≡ store)
   unfolding called
   refusal-keeps e = either (sound t store) _ _ (order-keeps (own e)) (refused-keeps 20)
 
 pub sound-after : (es : List Event) → Each Fits es
-    → sound (tableLeft called es emptyTable (replicate 32768 0)) (storeLeft called es emptyTable (replicate 32768 0)) ≡ true
+    → sound (keptLeft called es emptyTable (replicate 32768 0)) (storeLeft called es emptyTable (replicate 32768 0)) ≡ true
 sound-after es fs =
     let d = calls-meet-demand-3 es fs in
-    let v = run-keeps lastByte es start fs (start-keeps lastByte) in
-    ap₂ sound (d .same-table) (d .same-store) ∙ model-sound lastByte (run lastByte es start) v
+    let v = run-keeps own-reads lastByte es start fs (start-keeps lastByte) in
+    ap₂ sound (d .same-table) (d .same-store) ∙ model-sound lastByte (run lastByte own es start) v
