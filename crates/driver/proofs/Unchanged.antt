@@ -14,21 +14,21 @@ use Rattle.agreement.proofs.Unchanged.{refusal-keeps}
 use Rattle.driver.specs.Calls.{calledOn, calledWith, locateResult, routedOn}
 
 module _ (e : Event) (r : TableRecord) (store : List ℕ) where
-  keeps : (a : Answer Table) → tableIn r ≡ a → (calledWith a e r store .refusal ≡ 0 → ⊥)
-      → (calledWith a e r store .table ≡ r) × (calledWith a e r store .store ≡ store)
+  keeps : (a : Answer Table) → tableIn r ≡ a → (calledWith a e r store .answer ≡ 0 → ⊥)
+      → (calledWith a e r store .kept ≡ r) × (calledWith a e r store .store ≡ store)
   keeps (accepted t) p h =
       let k = refusal-keeps t store e h in
       (ap recordOf (k .0) ∙ record-back r t p, k .1)
   keeps (refused n) p h = (refl, refl)
 
-  pub refused-call-keeps : (calledOn e r store .refusal ≡ 0 → ⊥) → (calledOn e r store .table ≡ r) × (calledOn e r store .store ≡ store)
+  pub refused-call-keeps : (calledOn e r store .answer ≡ 0 → ⊥) → (calledOn e r store .kept ≡ r) × (calledOn e r store .store ≡ store)
   unfolding calledOn
   refused-call-keeps h = keeps (tableIn r) refl h
 
 -- ---- a record that is no table
 
 module _ (r : TableRecord) (n : ℕ) (no : tableIn r ≡ refused n) (store : List ℕ) where
-  pub no-table-called : (e : Event) → calledOn e r store ≡ record { refusal = 20; table = r; store = store }
+  pub no-table-called : (e : Event) → calledOn e r store ≡ record { answer = 20; kept = r; store = store }
   unfolding calledOn
   no-table-called e = rw (no, no-table-is-20 r n no)
 

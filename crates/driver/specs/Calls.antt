@@ -22,24 +22,27 @@ use Rattle.driver.specs.declared.event.EventResult.{EventResult}
 abbrev pub emptyRecord : TableRecord
 emptyRecord = recordOf emptyTable
 
--- what a call leaves: the refusal's number or 0, the record given back, the store
-pub record RecordResult : Type 0 where
-  pub refusal : ℕ
-  pub table : TableRecord
-  pub store : List ℕ
+-- the table of an answer; t where there is none
+abbrev pub tableOr : Table → Answer Table → Table
+tableOr t (accepted u) = u
+tableOr t (refused n) = t
 
-abbrev pub recordResultOf : EventResult → List ℕ → RecordResult
-recordResultOf r store = record { refusal = r .refusal; table = r .table; store = store }
+-- the table that a record stands for; a record that stands for none is taken for empty
+unfoldable pub tableOfRecord : TableRecord → Table
+tableOfRecord r = tableOr emptyTable (tableIn r)
 
-abbrev pub recorded : CallResult → RecordResult
-recorded l = record { refusal = l .answer; table = recordOf (l .table); store = l .store }
+abbrev pub recordResultOf : EventResult → List ℕ → CallResult TableRecord
+recordResultOf r store = record { answer = r .refusal; kept = r .table; store = store }
+
+abbrev pub recorded : CallResult Table → CallResult TableRecord
+recorded l = record { answer = l .answer; kept = recordOf (l .kept); store = l .store }
 
 -- a record that is no table is given back as it is
-abbrev pub calledWith : Answer Table → Event → TableRecord → List ℕ → RecordResult
+abbrev pub calledWith : Answer Table → Event → TableRecord → List ℕ → CallResult TableRecord
 calledWith (accepted t) e r store = recorded (called e t store)
-calledWith (refused n) e r store = record { refusal = n; table = r; store = store }
+calledWith (refused n) e r store = record { answer = n; kept = r; store = store }
 
-unfoldable pub calledOn : Event → TableRecord → List ℕ → RecordResult
+unfoldable pub calledOn : Event → TableRecord → List ℕ → CallResult TableRecord
 calledOn e r store = calledWith (tableIn r) e r store
 
 -- ---- where an I/O goes
