@@ -62,10 +62,10 @@ own-refusals Revoke = accepts
 -- ---- answers, on whatever table and store
 
 -- a call's answer is one of a list
-record AnswersIn (ns : List ℕ) (l : CallResult) : Type 0 where
+record AnswersIn (ns : List ℕ) (l : CallResult Table) : Type 0 where
   listed : isOneOf (l .answer) ns ≡ true
 
-either : {ns : List ℕ} (b : Bool) {l k : CallResult} → AnswersIn ns l → AnswersIn ns k → AnswersIn ns (pick b l k)
+either : {ns : List ℕ} (b : Bool) {l k : CallResult Table} → AnswersIn ns l → AnswersIn ns k → AnswersIn ns (pick b l k)
 unfolding pick
 either true h i = h
 either false h i = i
@@ -187,7 +187,7 @@ module _ (N : ℕ) where
       go (accepted o) p = not-listed (0 ∷ 21 ∷ 22 ∷ 25 ∷ 24 ∷ 23 ∷ []) (verdict N o M) 20 (verdict-listed o M .listed) refl
       go (refused n) p = not-listed ownNumbers n 20 (own-refusals e .refusal n p) refl
 
-  answers-not-20 : (es : List Event) (M : Model) → Each (λ n. n ≡ 20 → ⊥) (answers N es M)
+  answers-not-20 : (es : List Event) (M : Model) → Each (λ n. n ≡ 20 → ⊥) (answers N own es M)
   unfolding answers
   answers-not-20 [] M = tt
   answers-not-20 (e ∷ es) M = (answer-not-20 e M, answers-not-20 es (modelAfter N (own e) M))

@@ -38,18 +38,17 @@ ghost use Rattle.route.specs.Rights.{servedByRights, servedOf};
 ghost use Rattle.route.specs.Routes.{iomodeFor, layoutIn, routed};
 ghost use Rattle.store.specs.Store.{bodyIn, slotAt};
 ghost use Rattle.reference.specs.AnyTable.{EndsBy, OfModel, Typed, leftBy, modelOf};
-ghost use Rattle.reference.specs.Claim.{Calls, Demand3, Fits, acceptedOf, answered, rightGiven, storeLeft, tableLeft};
+ghost use Rattle.reference.specs.Claim.{Calls, Demand3, Fits, acceptedOf, answered, keptLeft, rightGiven, storeLeft};
 ghost use Rattle.reference.specs.Cases as cases;
 ghost use Rattle.reference.specs.Cases.{bodyOf, grantBytes};
 ghost use Rattle.reference.specs.StandIns.{changesNothing, firstOnly, refusesAll};
 ghost use Rattle.reference.specs.Sound.{isAccepted, sound};
-ghost use Rattle.reference.specs.Model.{Event, Grant, Order, Recall, Return, Revoke, covers, granted, none, recalls};
+ghost use Rattle.reference.specs.Model.{Event, Grant, Order, Recall, Return, Revoke, covers, granted, none, own, recalls, run, start, tableOf};
 ghost use Rattle.events.specs.Events.{called};
 ghost use Rattle.examples.specs.Examples.{Holds, examples};
 ghost use Rattle.record.specs.Records.{recordOf, tableIn};
 ghost use Rattle.record.specs.declared.types.TableRecord.{TableRecord};
-ghost use Rattle.driver.specs.Calls.{calledOn, locateResult, recorded, routedOn};
-ghost use Rattle.driver.specs.Lists.{Demand3OnRecords};
+ghost use Rattle.driver.specs.Calls.{calledOn, emptyRecord, locateResult, recorded, routedOn, tableOfRecord};
 ghost use Rattle.claims.specs.Statements.{BestOf, PieceStands, ServerStands, grantsByte, isOneOf};
 
 // ==== The three demands
@@ -59,14 +58,14 @@ ghost use Rattle.claims.specs.Statements.{BestOf, PieceStands, ServerSta
 // Demand 1 of the events: a refused one leaves table and store as they were, whatever they are.
 pub fn refused_events_change_nothing()
     ensures { λ r. ⌜ ((e : Event) (t : Table) (store : List ℕ)
-        → (called e t store .answer ≡ 0 → ⊥) → (called e t store .table ≡ t) × (called e t store .store ≡ store)) ⌝ }
+        → (called e t store .answer ≡ 0 → ⊥) → (called e t store .kept ≡ t) × (called e t store .store ≡ store)) ⌝ }
 {}
 
 // Demand 1 of the exported events: a refused one gives back the record that it was handed, whatever that is, and leaves the store as it was.
 pub fn refused_calls_keep_records()
     ensures { λ r. ⌜ ((e : Event) (given : TableRecord) (store : List ℕ)
-        → (calledOn e given store .refusal ≡ 0 → ⊥)
-        → (calledOn e given store .table ≡ given) × (calledOn e given store .store ≡ store)) ⌝ }
+        → (calledOn e given store .answer ≡ 0 → ⊥)
+        → (calledOn e given store .kept ≡ given) × (calledOn e given store .store ≡ store)) ⌝ }
 {}
 
 // Demand 1 of the writer: a refused body leaves the output as it was.
@@ -111,11 +110,11 @@ pub fn events_refuse_as_listed()
 // 20: "table or shelf is unsound", first in the order of events and of requests, whatever else is wrong; a record that is no table is unsound.
 pub fn unsound_is_20()
     ensures { λ r. ⌜ ((e : Event) (t : Table) (store : List ℕ) → sound t store ≡ false
-        → called e t store ≡ record { answer = 20; table = t; store = store })
+        → called e t store ≡ record { answer = 20; kept = t; store = store })
         × ((write : Bool) (t : Table) (store : List ℕ) (offset len : ℕ) → sound t store ≡ false
         → routed write t store offset len ≡ refused 20)
         × ((e : Event) (given : TableRecord) (store : List ℕ) (n : ℕ) → tableIn given ≡ refused n
-        → calledOn e given store ≡ record { refusal = 20; table = given; store = store })
+        → calledOn e given store ≡ record { answer = 20; kept = given; store = store })
         × ((write : Bool) (given : TableRecord) (store : List ℕ) (offset len n : ℕ) → tableIn given ≡ refused n
         → routedOn write given store offset len ≡ locateResult (refused 20)) ⌝ }
 {}
@@ -151,8 +150,9 @@ pub fn starts_are_servers()
 // Demand 3, undivided, of the calls that grant, layout_return, recall and revoke are proved to be (the `ensures` in events/src/grants.rt and
 // ranges.rt): after every list of events from the empty table and the zeroed store their answers, table and store are those of the reference model,
 // which the scope paper calls the ledger (reference/specs/Model.antt). `Agreed` in reference/specs/Claim.antt has each sentence as a field or two.
+// All that these calls keep of a file is its table, at first the empty one, and they read an event as `own` does.
 pub fn demand_3()
-    ensures { λ r. ⌜ Demand3 called ⌝ }
+    ensures { λ r. ⌜ Demand3 (λ t. t) emptyTable own called ⌝ }
 {}
 
 // Demand 3 and where an I/O goes, joined: after every list of events an I/O is served exactly as the rights say that the accepted events give its first
@@ -160,21 +160,21 @@ pub fn demand_3()
 // RW under a body without flag 4; elsewhere the answer is 17. A request that is out of order is 5, and 20 never comes.
 pub fn io_goes_by_the_rights_that_events_give()
     ensures { λ r. ⌜ ((es : List Event) → Each Fits es → (write : Bool) (offset len : ℕ)
-        → given (routed write (tableLeft called es emptyTable (replicate 32768 0)) (storeLeft called es emptyTable (replicate 32768 0)) offset len)
+        → given (routed write (keptLeft called es emptyTable (replicate 32768 0)) (storeLeft called es emptyTable (replicate 32768 0)) offset len)
         (λ p. accepted (servedOf (storeLeft called es emptyTable (replicate 32768 0)) p))
         ≡ given (requestLast offset len) (λ last. servedByRights write
-        (rightGiven (acceptedOf es (answered called es emptyTable (replicate 32768 0))) READ offset none)
-        (rightGiven (acceptedOf es (answered called es emptyTable (replicate 32768 0))) RW offset none))) ⌝ }
+        (rightGiven (acceptedOf own es (answered called es emptyTable (replicate 32768 0))) READ offset none)
+        (rightGiven (acceptedOf own es (answered called es emptyTable (replicate 32768 0))) RW offset none))) ⌝ }
 {}
 
 // And not of the first byte alone: each byte of an answered piece is granted by the accepted events, in the iomode and under the body of the piece; for a
 // write that iomode is RW.
 pub fn each_byte_of_a_piece_is_granted()
     ensures { λ r. ⌜ ((es : List Event) → Each Fits es → (write : Bool) (offset len : ℕ) (p : Piece)
-        → routed write (tableLeft called es emptyTable (replicate 32768 0)) (storeLeft called es emptyTable (replicate 32768 0)) offset len ≡ accepted p
+        → routed write (keptLeft called es emptyTable (replicate 32768 0)) (storeLeft called es emptyTable (replicate 32768 0)) offset len ≡ accepted p
         → (m : Mode) × (p .iomode ≡ iomodeFor m) × (write ≡ true → m ≡ RW)
         × ((x : ℕ) → offset ≤ x → x < offset + p .length
-        → rightGiven (acceptedOf es (answered called es emptyTable (replicate 32768 0))) m x none
+        → rightGiven (acceptedOf own es (answered called es emptyTable (replicate 32768 0))) m x none
         ≡ granted (bodyIn (slotAt (storeLeft called es emptyTable (replicate 32768 0)) (p .slot .0))))) ⌝ }
 {}
 
@@ -182,15 +182,18 @@ pub fn each_byte_of_a_piece_is_granted()
 // that covers it there comes after, that byte is in no piece that is answered to a write.
 pub fn no_write_after_a_recall()
     ensures { λ r. ⌜ ((es : List Event) → Each Fits es → (before : List Order) (o : Order) (after : List Order)
-        → acceptedOf es (answered called es emptyTable (replicate 32768 0)) ≡ before ++ (o ∷ after) → o .deed ≡ recalls
+        → acceptedOf own es (answered called es emptyTable (replicate 32768 0)) ≡ before ++ (o ∷ after) → o .deed ≡ recalls
         → (x : ℕ) → covers o RW x ≡ true → Each (λ o. grantsByte RW x o ≡ false) after → (offset len : ℕ) (p : Piece)
-        → routed true (tableLeft called es emptyTable (replicate 32768 0)) (storeLeft called es emptyTable (replicate 32768 0)) offset len ≡ accepted p
+        → routed true (keptLeft called es emptyTable (replicate 32768 0)) (storeLeft called es emptyTable (replicate 32768 0)) offset len ≡ accepted p
         → offset ≤ x → x < offset + p .length → ⊥) ⌝ }
 {}
 
-// Demand 3 of the functions that C links: over every list of calls, each handed the record and the store that the last one left.
+// Demand 3 of the functions that C links: over every list of calls, each handed the record and the store that the last one left. What they keep is a
+// record, at first the empty table's; and the record left is that of the model's table.
 pub fn demand_3_of_exported_functions()
-    ensures { λ r. ⌜ Demand3OnRecords calledOn ⌝ }
+    ensures { λ r. ⌜ Demand3 tableOfRecord emptyRecord own calledOn
+        × ((es : List Event) → Each Fits es
+        → keptLeft calledOn es emptyRecord (replicate 32768 0) ≡ recordOf (tableOf lastByte (run lastByte own es start))) ⌝ }
 {}
 
 // ==== What follows
@@ -292,7 +295,7 @@ pub fn mirrors_are_named_by_efficiency()
 // they show: its answer is the model's, and it leaves the table and the store of the model after the event.
 pub fn events_on_any_table()
     ensures { λ r. ⌜ ((e : Event) (t : Table) (store : List ℕ) → Fits e → Typed lastByte t store → sound t store ≡ true
-        → called e t store ≡ leftBy e (modelOf t store)) ⌝ }
+        → called e t store ≡ leftBy (tableOf lastByte) (own e) (modelOf t store)) ⌝ }
 {}
 
 // Soundness is: being the table and the store of some model, one that keeps the invariant of every model after a list of events.
@@ -305,15 +308,15 @@ pub fn sound_is_of_a_model()
 // obey any others while nothing is held and then answer as any others do and change nothing.
 pub fn stand_ins_fall()
     ensures { λ r. ⌜ ((number : Event → Table → List ℕ → ℕ) → ((e : Event) (t : Table) (store : List ℕ) → number e t store ≡ 0 → ⊥)
-        → Demand3 (refusesAll number) → ⊥)
-        × ((call : Calls) → Demand3 (changesNothing call) → ⊥)
-        × ((call later : Calls) → Demand3 (firstOnly call later) → ⊥) ⌝ }
+        → Demand3 (λ t. t) emptyTable own (refusesAll number) → ⊥)
+        × ((call : Calls Table) → Demand3 (λ t. t) emptyTable own (changesNothing call) → ⊥)
+        × ((call later : Calls Table) → Demand3 (λ t. t) emptyTable own (firstOnly (λ t. t) call later) → ⊥) ⌝ }
 {}
 
 // After every list of events table and store are sound.
 pub fn events_leave_sound_tables()
     ensures { λ r. ⌜ ((es : List Event) → Each Fits es
-        → sound (tableLeft called es emptyTable (replicate 32768 0)) (storeLeft called es emptyTable (replicate 32768 0)) ≡ true) ⌝ }
+        → sound (keptLeft called es emptyTable (replicate 32768 0)) (storeLeft called es emptyTable (replicate 32768 0)) ≡ true) ⌝ }
 {}
 
 // "20 never comes": no event of a list from the empty table is answered 20.
