@@ -1,7 +1,7 @@
 -- Laws of lists of segments looked through from the front: the next segment and the ones behind it, and none left.
 use Prim.Native.Nat.{ℕ, suc, _+_, _≤_, _<_, min}
-use mathlib.Core.Path.{_≡_, refl, sym, ap, _∙_}
-use mathlib.Core.Bool.{Bool, true, false, _&&_, _||_}
+use mathlib.Core.Path.{_≡_, sym, ap, _∙_}
+use mathlib.Core.Bool.{Bool, false, _&&_, _||_}
 use mathlib.Core.List.{_∷_}
 use native.Mathlib.Numerals.{add-one}
 use native.Mathlib.Omega.{arith}
@@ -11,11 +11,7 @@ use lib.Seq.{drop-cons, getD-take}
 use Rattle.segments.specs.declared.Right.{Right}
 use Rattle.segments.specs.declared.Segment.{Segment}
 use Rattle.segments.specs.declared.Segments.{Segments}
-use Rattle.base.specs.declared.iomode.Iomode.{Iomode}
-use Rattle.base.specs.declared.iomode.Iomode.the-variants.{Read, ReadWrite, Any}
-use Rattle.segments.specs.declared.Table.{Table}
-use Rattle.segments.specs.Segments.{READ, RW, anyMeets, anyNames, isOfSlot, listIn, listOf}
-use Rattle.lookup.specs.Lookup.{tableMeets}
+use Rattle.segments.specs.Segments.{anyMeets, anyNames, isOfSlot, listOf}
 
 pub length-used : (g : Segments) → length (g .items) ≡ 32 → length (listOf g) ≡ min (g .count) 32
 length-used g h = rw (length-take (g .count) (g .items), h)
@@ -45,21 +41,3 @@ meets-next p lo hi g k d h = ap (anyMeets p lo hi) (next-segment g k d h)
 pub meets-none : (p : Right → Bool) (lo hi : ℕ) (g : Segments) (k : ℕ) → length (listOf g) ≤ k → anyMeets p lo hi (drop k (listOf g)) ≡ false
 unfolding anyMeets
 meets-none p lo hi g k h = ap (anyMeets p lo hi) (drop-of-length-le (listOf g) h)
-
--- ---- the iomodes on which a question acts
-
-pub meets-read : (p : Right → Bool) (i : Iomode) (lo hi : ℕ) (t : Table) → i ≡ Read → tableMeets p i lo hi t ≡ anyMeets p lo hi (listIn t READ)
-unfolding tableMeets
-meets-read p i lo hi t e = rw e (go (anyMeets p lo hi (listIn t READ))) where
-  go : (b : Bool) → (b || false) ≡ b
-  go true = refl
-  go false = refl
-
-pub meets-rw : (p : Right → Bool) (i : Iomode) (lo hi : ℕ) (t : Table) → i ≡ ReadWrite → tableMeets p i lo hi t ≡ anyMeets p lo hi (listIn t RW)
-unfolding tableMeets
-meets-rw p i lo hi t e = rw e
-
-pub meets-any : (p : Right → Bool) (i : Iomode) (lo hi : ℕ) (t : Table) → i ≡ Any
-    → tableMeets p i lo hi t ≡ (anyMeets p lo hi (listIn t READ) || anyMeets p lo hi (listIn t RW))
-unfolding tableMeets
-meets-any p i lo hi t e = rw e

@@ -1,9 +1,9 @@
 // Whether a segment that meets a range has a right of a kind.
-use base::Iomode;
 use base::SlotNumber;
 use segments::Right;
 use segments::Segment;
 use segments::Segments;
+use segments::Span;
 use segments::Table;
 ghost use mathlib.Core.Path.{_≡_};
 ghost use mathlib.Core.Bool.{_&&_};
@@ -69,20 +69,20 @@ fn any_meets(g: Segments, first: u64, last: u64, c: Condition) -> bool
     false
 }
 
-// Any right in the range, of the iomode or, for ANY, of either.
-pub fn meets(t: Table, iomode: Iomode, first: u64, last: u64, c: Condition) -> bool
-    ensures { λ r. ⌜ r ≡ tableMeets (satisfies c) iomode first last t ⌝ }
+// Any right in the span, of the iomode or, for ANY, of either.
+pub fn meets(t: Table, s: Span, c: Condition) -> bool
+    ensures { λ r. ⌜ r ≡ tableMeets (satisfies c) (s .iomode) (s .first) (s .last) t ⌝ }
 {
-    let read = t.read;
-    let rw = t.rw;
-    match iomode {
-        Iomode::Read => any_meets(read, first, last, c),
-        Iomode::ReadWrite => any_meets(rw, first, last, c),
-        Iomode::Any => {
-            if any_meets(read, first, last, c) {
+    let iomode = s.iomode;
+    let mut i: u32 = 0;
+    while i < 2 {
+        if segments::acts_on(iomode, i) {
+            let g = segments::list_in(t, i);
+            if any_meets(g, s.first, s.last, c) {
                 return true;
             }
-            any_meets(rw, first, last, c)
         }
+        i += 1;
     }
+    false
 }

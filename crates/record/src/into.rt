@@ -11,11 +11,12 @@ fn segment_record(s: Segment) -> SegmentRecord
     ensures { λ r. ⌜ r ≡ segmentRecord s ⌝ }
 {
     let right = s.right;
+    let slot = segments::slot_of(right);
     SegmentRecord {
         first: s.first,
         last: s.last,
         kind: segments::kind_of(right),
-        slot: segments::slot_number_of(right),
+        slot: slot.0,
     }
 }
 

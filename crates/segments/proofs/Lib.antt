@@ -2,3 +2,4 @@ pub mod Canon
 pub mod ScanLaws
 pub mod Fewest
 pub mod SegmentTests
+pub mod ModeLaws

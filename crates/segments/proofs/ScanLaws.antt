@@ -1,7 +1,7 @@
 -- Laws of the walk over every byte: what a test finds, and that the list worked out is canonical, shows each byte's right and nothing else.
 use Prim.Native.Nat.{ℕ, zero, suc, _+_, _≤_, _<_}
 use mathlib.Core.Path.{_≡_, refl, sym, ap, _∙_}
-use mathlib.Core.Bool.{Bool, true, false, _&&_, _||_, false≢true}
+use mathlib.Core.Bool.{Bool, true, false, _&&_, _||_, false≢true, or-true}
 use mathlib.Core.List.{List, [], _∷_}
 use native.Mathlib.Omega.{arith}
 use native.Mathlib.Decide.{decLe, decLt}
@@ -32,6 +32,15 @@ any-some p (suc n) x h e = go (p n) refl (decLt x n) (λ l. any-some p n x l e)
     go false k (no l) rest =
         let f : x ≡ n = omega arith in
         absurd (false≢true (sym k ∙ (ap p (sym f) ∙ e)))
+
+pub any-more : (p q : ℕ → Bool) (n : ℕ) → ((x : ℕ) → x < n → p x ≡ true → q x ≡ true) → anyBelow p n ≡ true → anyBelow q n ≡ true
+unfolding anyBelow
+any-more p q zero h e = e
+any-more p q (suc n) h e = go (p n) refl e (any-more p q n (λ x l. h x (omega arith)))
+  where
+    go : (t : Bool) → p n ≡ t → (t || anyBelow p n) ≡ true → (anyBelow p n ≡ true → anyBelow q n ≡ true) → (q n || anyBelow q n) ≡ true
+    go true k f rest = rw (h n (omega arith) k)
+    go false k f rest = rw (rest f) (or-true (q n))
 
 pub any-found : (p : ℕ → Bool) (n : ℕ) → anyBelow p n ≡ true → (x : ℕ) × (x < n) × (p x ≡ true)
 unfolding anyBelow

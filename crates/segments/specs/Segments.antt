@@ -19,6 +19,10 @@ use Rattle.segments.specs.declared.Table.{Table}
 pub data Mode : Type 0 where
   READ RW : Mode
 
+-- the two by number: 0 is READ, any other RW
+abbrev pub modeOf : ℕ → Mode
+modeOf i = pick (eqb i 0) READ RW
+
 -- "ANY acts on both"
 abbrev pub actsOn : Iomode → Mode → Bool
 actsOn Read READ = true

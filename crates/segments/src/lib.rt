@@ -1,8 +1,9 @@
 // The segments of a table: which bytes have which right, in each iomode.
+use base::Iomode;
 use base::SlotNumber;
 ghost use mathlib.Core.Path.{_≡_};
 ghost use Prim.Native.Nat.{min};
-ghost use Rattle.segments.specs.Segments.{emptyTable, kindOf, sameRight, slotNumberOf};
+ghost use Rattle.segments.specs.Segments.{actsOn, emptyTable, kindOf, modeOf, sameRight, segmentsFor, slotNumberOf};
 
 // The number names the slot of the layout body under which the bytes are held.
 pub enum Right {
@@ -29,6 +30,18 @@ pub struct Table {
     pub rw: Segments,
 }
 
+// The bytes from first to last, both included, in an iomode or, for ANY, in both.
+pub struct Span {
+    pub iomode: Iomode,
+    pub first: u64,
+    pub last: u64,
+}
+
+// The two lists of a table by number.
+pub const READ_LIST: u32 = 0;
+
+pub const RW_LIST: u32 = 1;
+
 // What stands in an unused place.
 pub const BLANK: Segment = Segment {
     first: 0,
@@ -46,20 +59,23 @@ pub fn kind_of(right: Right) -> u32
     }
 }
 
-pub fn slot_number_of(right: Right) -> u32
-    ensures { λ r. ⌜ r ≡ slotNumberOf right ⌝ }
+// Slot 0 where there is no right.
+pub fn slot_of(right: Right) -> SlotNumber
+    ensures { λ r. ⌜ r .0 ≡ slotNumberOf right ⌝ }
 {
     match right {
-        Right::None => 0,
-        Right::Granted(s) => s.0,
-        Right::Recalled(s) => s.0,
+        Right::None => SlotNumber(0),
+        Right::Granted(s) => s,
+        Right::Recalled(s) => s,
     }
 }
 
 pub fn same_right(a: Right, b: Right) -> bool
     ensures { λ r. ⌜ r ≡ sameRight a b ⌝ }
 {
-    (kind_of(a) == kind_of(b)) & (slot_number_of(a) == slot_number_of(b))
+    let x = slot_of(a);
+    let y = slot_of(b);
+    (kind_of(a) == kind_of(b)) & (x.0 == y.0)
 }
 
 pub fn empty_table() -> Table
@@ -83,4 +99,26 @@ pub fn used_places(count: usize) -> usize
         return count;
     }
     32
+}
+
+// The list with a number, so that a walk over both lists asks its question in one place: a function that is called in
+// two is not inlined, and copies the list once more.
+pub fn list_in(t: Table, i: u32) -> Segments
+    ensures { λ r. ⌜ r ≡ segmentsFor t (modeOf i) ⌝ }
+{
+    if i == READ_LIST {
+        return t.read;
+    }
+    t.rw
+}
+
+// Whether an iomode acts on the list with a number: "ANY acts on both".
+pub fn acts_on(iomode: Iomode, i: u32) -> bool
+    ensures { λ r. ⌜ r ≡ actsOn iomode (modeOf i) ⌝ }
+{
+    match iomode {
+        Iomode::Read => i == READ_LIST,
+        Iomode::ReadWrite => i != READ_LIST,
+        Iomode::Any => true,
+    }
 }

@@ -24,7 +24,7 @@ abbrev pub piece : Part → List Segment
 piece Nothing = []
 piece (Some s) = s ∷ []
 
--- how many turns what stands in the range takes: nothing of a clear does
+-- how many turns what stands in the range takes; of a clear nothing stands there
 abbrev pub middleTurns : Change → ℕ → ℕ
 middleTurns (Grant x) n = 1
 middleTurns Clear n = 0

@@ -4,7 +4,7 @@ use mathlib.Core.Bool.{Bool, true, false, _&&_}
 use mathlib.Core.List.{List, [], _∷_, _++_}
 use lib.ListN.{length}
 use lib.Dec.{leb, ltb, eqb}
-use Rattle.base.specs.Answer.{pick}
+use Rattle.base.specs.Answer.{Answer, accepted, refused, pick}
 use Rattle.base.specs.declared.iomode.Iomode.{Iomode}
 use Rattle.segments.specs.declared.Right.{Right}
 use Rattle.segments.specs.declared.Right.the-variants.{None, Granted, Recalled}
@@ -15,7 +15,6 @@ use Rattle.segments.specs.Segments.{READ, RW, actsOn, inPlaces, listOf, sameRig
 use Rattle.table.specs.declared.change.Change.{Change}
 use Rattle.table.specs.declared.change.Change.the-variants.{Grant, Clear, Recall}
 use Rattle.table.specs.declared.change.Edited.{Edited}
-use Rattle.table.specs.declared.change.EditedTable.{EditedTable}
 
 -- ---- one segment more, behind a list
 
@@ -94,12 +93,9 @@ editedWhere true c lo hi g = editedIn c lo hi g
 editedWhere false c lo hi g = record { segments = g; fits = true }
 
 -- "23 for either refuses the whole event"
-abbrev pub bothFit : Table → Edited → Edited → EditedTable
-bothFit t r w =
-    pick (r .fits && w .fits)
-    (record { table = record { read = r .segments; rw = w .segments }; fits = true })
-    (record { table = t; fits = false })
+abbrev pub bothFit : Edited → Edited → Answer Table
+bothFit r w = pick (r .fits && w .fits) (accepted (record { read = r .segments; rw = w .segments })) (refused 23)
 
-unfoldable pub tableEdited : Change → Iomode → ℕ → ℕ → Table → EditedTable
+unfoldable pub tableEdited : Change → Iomode → ℕ → ℕ → Table → Answer Table
 tableEdited c i lo hi t =
-    bothFit t (editedWhere (actsOn i READ) c lo hi (t .read)) (editedWhere (actsOn i RW) c lo hi (t .rw))
+    bothFit (editedWhere (actsOn i READ) c lo hi (t .read)) (editedWhere (actsOn i RW) c lo hi (t .rw))

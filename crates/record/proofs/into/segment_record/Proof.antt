@@ -1,15 +1,16 @@
+-- `record::into::segment_record` meets its contract.
 use borrow.Author.Needs.{needs}
 use Rattle.record.proofs.into.segment_record.Statement.{statement}
 use Rattle.record.proofs.into.segment_record.Tie as tie
 
+slot-of-requires : tie.Need-slot-of-requires
+slot-of-requires c κs = search needs
+
 kind-of-requires : tie.Need-kind-of-requires
 kind-of-requires c κs = search needs
 
-slot-number-of-requires : tie.Need-slot-number-of-requires
-slot-number-of-requires c κs = search needs
-
 returns : tie.Need-returns
-returns c = rw (c .before .kind-of .ensures, c .slot-number-of .ensures)
+returns c = rw (c .kind-of .ensures, c .before .slot-of .ensures)
 
 pub segment-record-spec : {M : Type 1} → statement M
-segment-record-spec = tie.close (tie.spec kind-of-requires slot-number-of-requires returns)
+segment-record-spec = tie.close (tie.spec slot-of-requires kind-of-requires returns)

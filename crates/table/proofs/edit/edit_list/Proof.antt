@@ -1,0 +1,48 @@
+-- `table::edit::edit_list` meets its contract.
+use Rattle.base.proofs.ListLaws.{mapped-long}
+use Rattle.table.proofs.DraftLaws.{edit-fits, edit-over}
+use Rattle.table.proofs.PushLists.{take-within}
+use borrow.Author.Needs.{needs}
+use borrow.Author.Tests.{not-false, not-true}
+use lib.ListN.{length}
+use mathlib.Core.Path.{_≡_, sym, _∙_}
+use native.Mathlib.Omega.{arith}
+use Rattle.table.proofs.edit.edit_list.Statement.{statement}
+use Rattle.table.proofs.edit.edit_list.Tie as tie
+
+acts-on-requires : tie.Need-acts-on-requires
+acts-on-requires c κs = search needs
+
+returns : tie.Need-returns
+returns c = rw (sym (c .before .acts-on .ensures) ∙ not-true _ (c .if1 .taken))
+
+used-places-requires : tie.Need-used-places-requires
+used-places-requires c κs = search needs
+
+draft-of-requires : tie.Need-draft-of-requires
+draft-of-requires c κs = let e = c .used-places .ensures in omega arith
+
+returns-2 : tie.Need-returns-2
+returns-2 c =
+    let a = c .before .before .before .before .before .before .args in
+    let k : length (a .g .items) ≡ 32 = search (needs, mapped-long) in
+    rw (sym (c .before .before .before .before .before .acts-on .ensures) ∙ not-false _ (c .before .before .before .before .if1 .left))
+    (edit-over (a .c) (a .s .first) (a .s .last) (a .g) _ (take-within (a .g .items) (a .g .count) _ k (c .before .before .used-places .ensures)) (c .before .draft-of .ensures) (c .if2 .taken))
+
+returns-3 : tie.Need-returns-3
+returns-3 c =
+    let a = c .before .before .before .before .before .before .before .args in
+    let k : length (a .g .items) ≡ 32 = search (needs, mapped-long) in
+    rw (sym (c .before .before .before .before .before .before .acts-on .ensures) ∙ not-false _ (c .before .before .before .before .before .if1 .left))
+    (edit-fits (a .c) (a .s .first) (a .s .last) (a .g) _ (take-within (a .g .items) (a .g .count) _ k (c .before .before .before .used-places .ensures)) (c .before .before .draft-of .ensures) (c .before .if2 .left))
+
+pub edit-list-spec : {M : Type 1} → statement M
+edit-list-spec =
+    tie.close
+    (tie.spec
+    acts-on-requires
+    returns
+    used-places-requires
+    draft-of-requires
+    returns-2
+    returns-3)
