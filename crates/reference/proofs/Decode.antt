@@ -141,7 +141,7 @@ module _ (N : ℕ) (M : Model) (v : Invariant N M) where
       go empty e = refl
       go (holds b) e = ap holds (body-back b (v .good i b e .small))
 
-  slots-from : (k i : ℕ) → i + k ≡ 8 → slotsFrom (tableOf N M) (storeOf (M .slots)) k i ≡ drop i (M .slots)
+  slots-from : (k i : ℕ) → i + k ≡ 8 → slotsFrom (isNamed (tableOf N M)) (storeOf (M .slots)) k i ≡ drop i (M .slots)
   unfolding slotsFrom
   slots-from zero i h = let e : length (M .slots) ≡ 8 = v .eight in sym (drop-of-length-le (M .slots) {i = i} (omega arith))
   slots-from (suc k) i h =

@@ -162,7 +162,7 @@ module _ (t : Table) (store : List ℕ) (long : length store ≡ 32768) (bytes :
       go true s = laid-back (slotAt store i) (slot-long i h) (slot-bytes-are i) s
       go false s = zero-back (slotAt store i) (slot-long i h) s
 
-  store-back : (k i : ℕ) → i + k ≡ 8 → slotsSound t store k i ≡ true → storeOf (slotsFrom t store k i) ≡ drop (i * 4096) store
+  store-back : (k i : ℕ) → i + k ≡ 8 → slotsSound t store k i ≡ true → storeOf (slotsFrom (isNamed t) store k i) ≡ drop (i * 4096) store
   unfolding storeOf slotsFrom slotsSound
   store-back zero i h s = sym (drop-of-length-le store {i = i * 4096} (omega arith))
   store-back (suc k) i h s =

@@ -151,14 +151,14 @@ own-small (Grant bytes) h = go (layout4 bytes) refl
 own-small (Return offset len number) h = go (rangeLast offset len) (iomodeOf number)
   where
     go : (a : Answer ℕ) (b : Answer Iomode)
-        → GoodOrder (given a λ last. given b λ iomode. accepted (record { deed = returns; iomode = iomode; first = offset; last = last }))
+        → GoodOrder (given a λ last. given b λ iomode. accepted (record { deed = returns; iomode = iomode; first = offset; last = last; len = len }))
     go (accepted last) (accepted m) = tt
     go (accepted last) (refused n) = tt
     go (refused n) b = tt
 own-small (Recall offset len number) h = go (rangeLast offset len) (iomodeOf number)
   where
     go : (a : Answer ℕ) (b : Answer Iomode)
-        → GoodOrder (given a λ last. given b λ iomode. accepted (record { deed = recalls; iomode = iomode; first = offset; last = last }))
+        → GoodOrder (given a λ last. given b λ iomode. accepted (record { deed = recalls; iomode = iomode; first = offset; last = last; len = len }))
     go (accepted last) (accepted m) = tt
     go (accepted last) (refused n) = tt
     go (refused n) b = tt
@@ -171,7 +171,7 @@ range-order d offset len number o h e =
     let a = gave (rangeLast offset len) _ o e in
     let b = gave (iomodeOf number) _ o (a .rest) in
     let r = range-ends offset len (a .value) h (a .first) in
-    let f : record { deed = d; iomode = b .value; first = offset; last = a .value } ≡ o = same-answer (b .rest) in
+    let f : record { deed = d; iomode = b .value; first = offset; last = a .value; len = len } ≡ o = same-answer (b .rest) in
     let ef : offset ≡ o .first = ap (λ (x : Order). x .first) f in
     let el : a .value ≡ o .last = ap (λ (x : Order). x .last) f in
     (omega (arith, r .0), omega (arith, r .1))

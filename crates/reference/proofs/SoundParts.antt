@@ -80,7 +80,7 @@ sound-slot slot h =
 
 module _ (t : Table) (store : List ℕ) where
   -- what slot i has
-  slot-in : (k i j : ℕ) → j < k → getD (slotsFrom t store k i) j empty ≡ pick (isNamed t (i + j)) (holds (bodyIn (slotAt store (i + j)))) empty
+  slot-in : (k i j : ℕ) → j < k → getD (slotsFrom (isNamed t) store k i) j empty ≡ pick (isNamed t (i + j)) (holds (bodyIn (slotAt store (i + j)))) empty
   unfolding slotsFrom
   slot-in zero i j h = absurd (omega arith)
   slot-in (suc k) i zero h = let e : i + 0 ≡ i = omega arith in rw e
@@ -88,13 +88,13 @@ module _ (t : Table) (store : List ℕ) where
       let e : i + suc j ≡ suc i + j = omega arith in
       slot-in k (suc i) j (omega arith) ∙ rw e
 
-  slot-out : (k i j : ℕ) → k ≤ j → getD (slotsFrom t store k i) j empty ≡ empty
+  slot-out : (k i j : ℕ) → k ≤ j → getD (slotsFrom (isNamed t) store k i) j empty ≡ empty
   unfolding slotsFrom
   slot-out zero i j h = refl
   slot-out (suc k) i zero h = absurd (omega arith)
   slot-out (suc k) i (suc j) h = slot-out k (suc i) j (omega arith)
 
-  pub slots-long : (k i : ℕ) → length (slotsFrom t store k i) ≡ k
+  pub slots-long : (k i : ℕ) → length (slotsFrom (isNamed t) store k i) ≡ k
   unfolding slotsFrom
   slots-long zero i = refl
   slots-long (suc k) i = ap suc (slots-long k (suc i))

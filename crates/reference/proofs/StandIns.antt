@@ -42,7 +42,7 @@ no-byte-met N o test M h = rw (nowhere READ, nowhere RW)
 
 module _ (N : ℕ) (b : Body) where
   abbrev every : Order
-  every = record { deed = grants b; iomode = ReadWrite; first = 0; last = N }
+  every = record { deed = grants b; iomode = ReadWrite; first = 0; last = N; len = toTheEnd }
 
   one-segment : (ss : List Slot) → segmentsOf N (λ x. withSlot ss (afterAt every RW x none)) ≡ grantedIn (slotOf b ss) 0 N ∷ []
   unfolding Canon Below afterAt covers pick
@@ -78,7 +78,7 @@ module _ (N : ℕ) (b : Body) where
 
 module _ (N : ℕ) (M : Model) where
   abbrev nothing : Order
-  nothing = record { deed = revokes; iomode = Any; first = 0; last = N }
+  nothing = record { deed = revokes; iomode = Any; first = 0; last = N; len = toTheEnd }
 
   none-right : (ss : List Slot) (m : Mode) → segmentsOf N (λ x. withSlot ss (afterAt nothing m x (M .right m x))) ≡ []
   unfolding Canon Below afterAt covers pick
@@ -100,7 +100,7 @@ module _ (N : ℕ) (M : Model) where
 unfoldable wholeFile : Event
 wholeFile = grantOf 0 toTheEnd 2 0
 
-whole-file-read : own wholeFile ≡ accepted (record { deed = grants (bodyOf 0 1 0); iomode = ReadWrite; first = 0; last = lastByte })
+whole-file-read : own wholeFile ≡ accepted (record { deed = grants (bodyOf 0 1 0); iomode = ReadWrite; first = 0; last = lastByte; len = toTheEnd })
 unfolding wholeFile own grantOrder given pick bodyOf servers grantBytes beBytes beFrom beValue layout4 layout4At frameAt rangeAt rangeLast requestLast grantIomodeOf then asItem whole manyAt allZero bytesAt countAt numAt opaqueAt headAt handlesAt serverAt frontAt layoutAt layoutBody mirrorsAt tailAt unitFits
 whole-file-read = refl
 

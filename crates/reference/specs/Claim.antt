@@ -109,7 +109,8 @@ inReach (accepted o) m x = covers o m x
 inReach (refused n) m x = false
 
 module _ {K : Type 0} (table : K → Table) where
-  -- "An accepted event changes no right outside its range and iomode; a refused one changes nothing." a: the event, read.
+  -- "An accepted event changes no right outside its range and iomode; a refused one changes nothing." a: the event
+  -- as it was read
   pub record Confined (a : Answer Order) (k : K) (store : List ℕ) (l : CallResult K) : Type 0 where
     pub elsewhere : l .answer ≡ 0 → (m : Mode) (x : ℕ) → x ≤ lastByte → inReach a m x ≡ false
         → rightIn (table (l .kept)) (l .store) m x ≡ rightIn (table k) store m x

@@ -6,7 +6,7 @@ use lib.ListN.{length, replicate}
 use lib.Dec.{ltb}
 use Rattle.base.specs.Answer.{Answer, accepted, refused, given, pick}
 use Rattle.base.specs.Iomodes.{iomodeOf}
-use Rattle.base.specs.Ranges.{lastByte, rangeLast}
+use Rattle.base.specs.Ranges.{lastByte, rangeLast, toTheEnd}
 use Rattle.base.specs.declared.iomode.Iomode.{Iomode}
 use Rattle.base.specs.declared.iomode.Iomode.the-variants.{Any}
 use Rattle.numbers.specs.Numbers.{bytesFrom, sameBytes}
@@ -48,19 +48,21 @@ pub data Deed : Type 0 where
   recalls : Deed
   revokes : Deed
 
--- an event whose own bytes and numbers are accepted
+-- an event whose own bytes and numbers are accepted; first and len are the offset and the length that it gives (of a
+-- revoke, which gives none, 0 and 2^64 - 1)
 pub record Order : Type 0 where
   pub deed : Deed
   pub iomode : Iomode
   pub first : ℕ
   pub last : ℕ
+  pub len : ℕ
 
 -- the range (5), then the iomode (3)
 unfoldable pub rangeOrder : Deed → ℕ → ℕ → ℕ → Answer Order
 rangeOrder d offset len number =
     given (rangeLast offset len) λ last.
     given (iomodeOf number) λ iomode.
-    accepted (record { deed = d; iomode = iomode; first = offset; last = last })
+    accepted (record { deed = d; iomode = iomode; first = offset; last = last; len = len })
 
 -- the body is named by its bytes
 unfoldable pub grantOrder : List ℕ → Whole → Order
@@ -69,6 +71,7 @@ grantOrder bytes w = record {
   iomode = w .frame .iomode;
   first = w .frame .offset;
   last = w .frame .last;
+  len = w .frame .length;
 }
 
 -- "the event's own bytes and numbers (5 before 3)"; a revoke is of every byte in both iomodes
@@ -76,7 +79,7 @@ unfoldable pub own : Event → Answer Order
 own (Grant bytes) = given (layout4 bytes) λ w. accepted (grantOrder bytes w)
 own (Return offset len number) = rangeOrder returns offset len number
 own (Recall offset len number) = rangeOrder recalls offset len number
-own Revoke = accepted (record { deed = revokes; iomode = Any; first = 0; last = lastByte })
+own Revoke = accepted (record { deed = revokes; iomode = Any; first = 0; last = lastByte; len = toTheEnd })
 
 -- whether byte x in iomode m lies in the event's range and iomode
 unfoldable pub covers : Order → Mode → ℕ → Bool

@@ -74,13 +74,15 @@ unfoldable pub slotsSound : Table → List ℕ → ℕ → ℕ → Bool
 slotsSound t store zero i = true
 slotsSound t store (suc k) i = slotSound (isNamed t i) (slotAt store i) && slotsSound t store k (suc i)
 
--- the k slots from slot i on as table and store have them: a named slot has the body that its bytes say
-unfoldable pub slotsFrom : Table → List ℕ → ℕ → ℕ → List Slot
-slotsFrom t store zero i = []
-slotsFrom t store (suc k) i = pick (isNamed t i) (holds (bodyIn (slotAt store i))) empty ∷ slotsFrom t store k (suc i)
+-- the k slots from slot i on, by a test which are named: a named slot has the body that its bytes say
+unfoldable pub slotsFrom : (ℕ → Bool) → List ℕ → ℕ → ℕ → List Slot
+slotsFrom named store zero i = []
+slotsFrom named store (suc k) i =
+    pick (named i) (holds (bodyIn (slotAt store i))) empty ∷ slotsFrom named store k (suc i)
 
+-- the slots as table and store have them
 unfoldable pub slotsIn : Table → List ℕ → List Slot
-slotsIn t store = slotsFrom t store 8 0
+slotsIn t store = slotsFrom (isNamed t) store 8 0
 
 -- "no two alike"
 unfoldable pub noTwoAlike : List Slot → Bool

@@ -6,17 +6,15 @@ use mathlib.Core.List.{List, [], _∷_, _++_}
 use native.Mathlib.Omega.{arith}
 use lib.ListN.{length, set, length-append}
 use Rattle.base.specs.Answer.{pick}
-use Rattle.segments.specs.declared.Table.{Table}
-use Rattle.segments.specs.Segments.{isNamed}
 use Rattle.store.specs.Store.{Slot, empty, slotSet, storeOf}
 use Rattle.store.proofs.SlotLaws.{length-empty}
 use Rattle.store.proofs.StoreLaws.{AllWhole, set-slot}
 use Rattle.slots.specs.Slots.{clearedFrom}
 
--- the slots from slot i on, without those that only the table before names
-unfoldable pub clearedSlots : Table → Table → ℕ → List Slot → List Slot
-clearedSlots t u i [] = []
-clearedSlots t u i (p ∷ ps) = pick (isNamed t i && not (isNamed u i)) empty p ∷ clearedSlots t u (suc i) ps
+-- the slots from slot i on, without those that were named before and are not after
+unfoldable pub clearedSlots : (ℕ → Bool) → (ℕ → Bool) → ℕ → List Slot → List Slot
+clearedSlots was is i [] = []
+clearedSlots was is i (p ∷ ps) = pick (was i && not (is i)) empty p ∷ clearedSlots was is (suc i) ps
 
 set-at : (pre ps : List Slot) (p q : Slot) → set (pre ++ (p ∷ ps)) (length pre) q ≡ pre ++ (q ∷ ps)
 set-at [] ps p q = refl
@@ -36,7 +34,7 @@ emptied [] ps p w (suc i) = w (suc i)
 emptied (s ∷ pre) ps p w zero = w zero
 emptied (s ∷ pre) ps p w (suc i) = emptied pre ps p (λ j. w (suc j)) i
 
-module _ (t u : Table) where
+module _ (was is : ℕ → Bool) where
   after-one : (c : Bool) (pre ps : List Slot) (p : Slot) → AllWhole (pre ++ (p ∷ ps))
       → pick c (slotSet (storeOf (pre ++ (p ∷ ps))) (length pre) empty) (storeOf (pre ++ (p ∷ ps))) ≡ storeOf (pre ++ (pick c empty p ∷ ps))
   unfolding pick
@@ -51,14 +49,14 @@ module _ (t u : Table) where
   still-whole false pre ps p w = w
 
   pub cleared-store : (pre ps : List Slot) → AllWhole (pre ++ ps)
-      → clearedFrom t u (length ps) (length pre) (storeOf (pre ++ ps)) ≡ storeOf (pre ++ clearedSlots t u (length pre) ps)
+      → clearedFrom was is (length ps) (length pre) (storeOf (pre ++ ps)) ≡ storeOf (pre ++ clearedSlots was is (length pre) ps)
   unfolding clearedFrom clearedSlots
   cleared-store pre [] w = refl
   cleared-store pre (p ∷ ps) w =
-      let c : Bool = isNamed t (length pre) && not (isNamed u (length pre)) in
+      let c : Bool = was (length pre) && not (is (length pre)) in
       let q : Slot = pick c empty p in
-      let rest : List Slot = clearedSlots t u (suc (length pre)) ps in
-      ap (clearedFrom t u (length ps) (suc (length pre))) (after-one c pre ps p w ∙ ap storeOf (one-more pre ps q))
-      ∙ (ap (λ (n : ℕ). clearedFrom t u (length ps) n (storeOf ((pre ++ (q ∷ [])) ++ ps))) (sym (long pre q))
+      let rest : List Slot = clearedSlots was is (suc (length pre)) ps in
+      ap (clearedFrom was is (length ps) (suc (length pre))) (after-one c pre ps p w ∙ ap storeOf (one-more pre ps q))
+      ∙ (ap (λ (n : ℕ). clearedFrom was is (length ps) n (storeOf ((pre ++ (q ∷ [])) ++ ps))) (sym (long pre q))
       ∙ (cleared-store (pre ++ (q ∷ [])) ps (subst AllWhole (one-more pre ps q) (still-whole c pre ps p w))
-      ∙ ap storeOf (ap (λ (n : ℕ). (pre ++ (q ∷ [])) ++ clearedSlots t u n ps) (long pre q) ∙ sym (one-more pre rest q))))
+      ∙ ap storeOf (ap (λ (n : ℕ). (pre ++ (q ∷ [])) ++ clearedSlots was is n ps) (long pre q) ∙ sym (one-more pre rest q))))

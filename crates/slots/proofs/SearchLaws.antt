@@ -6,66 +6,62 @@ use mathlib.Core.List.{List, _∷_}
 use native.Mathlib.Omega.{arith}
 use Rattle.base.specs.Answer.{pick}
 use Rattle.numbers.specs.Numbers.{sameBytes}
-use Rattle.segments.specs.declared.Table.{Table}
-use Rattle.segments.specs.Segments.{isNamed}
 use Rattle.store.specs.Store.{Body, Slot, empty, holds, bodyIn, slotAt, slotSet}
 use Rattle.reference.specs.Model.{inSlots, noneEmpty, slotOf}
-use Rattle.reference.specs.Sound.{slotsFrom, slotsIn}
+use Rattle.reference.specs.Sound.{slotsFrom}
 use Rattle.slots.specs.declared.home.Home.the-variants.{Old, New, Nowhere}
 use Rattle.slots.specs.Slots.{clearedFrom, emptyHome, homeOf, lowestEmpty}
 
-next : (t : Table) (bytes : List ℕ) (i : ℕ) → i < 8
-    → slotsFrom t bytes (8 - i) i ≡ pick (isNamed t i) (holds (bodyIn (slotAt bytes i))) empty ∷ slotsFrom t bytes (8 - (i + 1)) (i + 1)
+next : (named : ℕ → Bool) (bytes : List ℕ) (i : ℕ) → i < 8
+    → slotsFrom named bytes (8 - i) i ≡ pick (named i) (holds (bodyIn (slotAt bytes i))) empty ∷ slotsFrom named bytes (8 - (i + 1)) (i + 1)
 unfolding slotsFrom
-next t bytes i h =
+next named bytes i h =
     let e : 8 - i ≡ suc (8 - (i + 1)) = omega arith in
     let f : i + 1 ≡ suc i = omega arith in
     rw (e, f) refl
 
 -- ---- the lowest slot that no segment names
 
-pub record NamedTo (t : Table) (bytes : List ℕ) (i : ℕ) : Type 0 where
-  pub none : noneEmpty (slotsIn t bytes) ≡ noneEmpty (slotsFrom t bytes (8 - i) i)
-  pub lowest : lowestEmpty (slotsIn t bytes) ≡ i + lowestEmpty (slotsFrom t bytes (8 - i) i)
+pub record NamedTo (named : ℕ → Bool) (bytes : List ℕ) (i : ℕ) : Type 0 where
+  pub none : noneEmpty (slotsFrom named bytes 8 0) ≡ noneEmpty (slotsFrom named bytes (8 - i) i)
+  pub lowest : lowestEmpty (slotsFrom named bytes 8 0) ≡ i + lowestEmpty (slotsFrom named bytes (8 - i) i)
 
-pub named-start : (t : Table) (bytes : List ℕ) → NamedTo t bytes 0
-unfolding slotsIn
-named-start t bytes = record { none = refl; lowest = omega arith }
+pub named-start : (named : ℕ → Bool) (bytes : List ℕ) → NamedTo named bytes 0
+named-start named bytes = record { none = refl; lowest = omega arith }
 
-module _ (t : Table) (bytes : List ℕ) (i : ℕ) (n : NamedTo t bytes i) where
-  pub named-next : i < 8 → isNamed t i ≡ true → NamedTo t bytes (i + 1)
+module _ (named : ℕ → Bool) (bytes : List ℕ) (i : ℕ) (n : NamedTo named bytes i) where
+  pub named-next : i < 8 → named i ≡ true → NamedTo named bytes (i + 1)
   unfolding noneEmpty lowestEmpty pick
   named-next h e =
-      let a : noneEmpty (slotsFrom t bytes (8 - i) i) ≡ noneEmpty (slotsFrom t bytes (8 - (i + 1)) (i + 1)) = rw (next t bytes i h, e) refl in
-      let b : lowestEmpty (slotsFrom t bytes (8 - i) i) ≡ suc (lowestEmpty (slotsFrom t bytes (8 - (i + 1)) (i + 1))) = rw (next t bytes i h, e) refl in
+      let a : noneEmpty (slotsFrom named bytes (8 - i) i) ≡ noneEmpty (slotsFrom named bytes (8 - (i + 1)) (i + 1)) = rw (next named bytes i h, e) refl in
+      let b : lowestEmpty (slotsFrom named bytes (8 - i) i) ≡ suc (lowestEmpty (slotsFrom named bytes (8 - (i + 1)) (i + 1))) = rw (next named bytes i h, e) refl in
       record { none = n .none ∙ a; lowest = omega (arith, n .lowest, b) }
 
-  pub not-named : i < 8 → isNamed t i ≡ false → New (record { 0 = i }) ≡ emptyHome (slotsIn t bytes)
+  pub not-named : i < 8 → named i ≡ false → New (record { 0 = i }) ≡ emptyHome (slotsFrom named bytes 8 0)
   unfolding noneEmpty lowestEmpty pick emptyHome
   not-named h e =
-      let a : noneEmpty (slotsFrom t bytes (8 - i) i) ≡ false = rw (next t bytes i h, e) refl in
-      let b : lowestEmpty (slotsFrom t bytes (8 - i) i) ≡ 0 = rw (next t bytes i h, e) refl in
-      let c : lowestEmpty (slotsIn t bytes) ≡ i = omega (arith, n .lowest, b) in
+      let a : noneEmpty (slotsFrom named bytes (8 - i) i) ≡ false = rw (next named bytes i h, e) refl in
+      let b : lowestEmpty (slotsFrom named bytes (8 - i) i) ≡ 0 = rw (next named bytes i h, e) refl in
+      let c : lowestEmpty (slotsFrom named bytes 8 0) ≡ i = omega (arith, n .lowest, b) in
       rw (n .none ∙ a, c) refl
 
-  pub named-all : 8 ≤ i → Nowhere ≡ emptyHome (slotsIn t bytes)
+  pub named-all : 8 ≤ i → Nowhere ≡ emptyHome (slotsFrom named bytes 8 0)
   unfolding noneEmpty slotsFrom pick emptyHome
   named-all h =
       let e : 8 - i ≡ 0 = omega arith in
-      let a : noneEmpty (slotsFrom t bytes (8 - i) i) ≡ true = rw e refl in
+      let a : noneEmpty (slotsFrom named bytes (8 - i) i) ≡ true = rw e refl in
       rw (n .none ∙ a) refl
 
 -- ---- the slot that holds a body
 
-pub record SoughtTo (b : Body) (t : Table) (bytes : List ℕ) (i : ℕ) : Type 0 where
-  pub found : inSlots b (slotsIn t bytes) ≡ inSlots b (slotsFrom t bytes (8 - i) i)
-  pub place : slotOf b (slotsIn t bytes) ≡ i + slotOf b (slotsFrom t bytes (8 - i) i)
+pub record SoughtTo (b : Body) (named : ℕ → Bool) (bytes : List ℕ) (i : ℕ) : Type 0 where
+  pub found : inSlots b (slotsFrom named bytes 8 0) ≡ inSlots b (slotsFrom named bytes (8 - i) i)
+  pub place : slotOf b (slotsFrom named bytes 8 0) ≡ i + slotOf b (slotsFrom named bytes (8 - i) i)
 
-pub sought-start : (b : Body) (t : Table) (bytes : List ℕ) → SoughtTo b t bytes 0
-unfolding slotsIn
-sought-start b t bytes = record { found = refl; place = omega arith }
+pub sought-start : (b : Body) (named : ℕ → Bool) (bytes : List ℕ) → SoughtTo b named bytes 0
+sought-start b named bytes = record { found = refl; place = omega arith }
 
-module _ (b : Body) (t : Table) (bytes : List ℕ) (i : ℕ) (n : SoughtTo b t bytes i) where
+module _ (b : Body) (named : ℕ → Bool) (bytes : List ℕ) (i : ℕ) (n : SoughtTo b named bytes i) where
   passed : (u v : Bool) (rest : List Slot) → sameBytes b (bodyIn (slotAt bytes i)) ≡ v → (u && v) ≡ false
       → (inSlots b (pick u (holds (bodyIn (slotAt bytes i))) empty ∷ rest) ≡ inSlots b rest)
       × (slotOf b (pick u (holds (bodyIn (slotAt bytes i))) empty ∷ rest) ≡ suc (slotOf b rest))
@@ -74,11 +70,11 @@ module _ (b : Body) (t : Table) (bytes : List ℕ) (i : ℕ) (n : SoughtTo b t b
   passed true false rest e f = (rw e refl, rw e refl)
   passed false v rest e f = (refl, refl)
 
-  pub sought-next : i < 8 → (isNamed t i && sameBytes b (bodyIn (slotAt bytes i))) ≡ false → SoughtTo b t bytes (i + 1)
+  pub sought-next : i < 8 → (named i && sameBytes b (bodyIn (slotAt bytes i))) ≡ false → SoughtTo b named bytes (i + 1)
   sought-next h e =
-      let p = passed (isNamed t i) (sameBytes b (bodyIn (slotAt bytes i))) (slotsFrom t bytes (8 - (i + 1)) (i + 1)) refl e in
-      let a : slotOf b (slotsFrom t bytes (8 - i) i) ≡ suc (slotOf b (slotsFrom t bytes (8 - (i + 1)) (i + 1))) = ap (slotOf b) (next t bytes i h) ∙ p .1 in
-      record { found = n .found ∙ (ap (inSlots b) (next t bytes i h) ∙ p .0); place = omega (arith, n .place, a) }
+      let p = passed (named i) (sameBytes b (bodyIn (slotAt bytes i))) (slotsFrom named bytes (8 - (i + 1)) (i + 1)) refl e in
+      let a : slotOf b (slotsFrom named bytes (8 - i) i) ≡ suc (slotOf b (slotsFrom named bytes (8 - (i + 1)) (i + 1))) = ap (slotOf b) (next named bytes i h) ∙ p .1 in
+      record { found = n .found ∙ (ap (inSlots b) (next named bytes i h) ∙ p .0); place = omega (arith, n .place, a) }
 
   stands : (u v : Bool) (rest : List Slot) → sameBytes b (bodyIn (slotAt bytes i)) ≡ v → (u && v) ≡ true
       → (inSlots b (pick u (holds (bodyIn (slotAt bytes i))) empty ∷ rest) ≡ true) × (slotOf b (pick u (holds (bodyIn (slotAt bytes i))) empty ∷ rest) ≡ 0)
@@ -87,35 +83,35 @@ module _ (b : Body) (t : Table) (bytes : List ℕ) (i : ℕ) (n : SoughtTo b t b
   stands true false rest e f = absurd (let z : _≡_ {A = ℕ} 0 1 = cc in omega arith)
   stands false v rest e f = absurd (let z : _≡_ {A = ℕ} 0 1 = cc in omega arith)
 
-  pub sought-here : i < 8 → (isNamed t i && sameBytes b (bodyIn (slotAt bytes i))) ≡ true → Old (record { 0 = i }) ≡ homeOf b (slotsIn t bytes)
+  pub sought-here : i < 8 → (named i && sameBytes b (bodyIn (slotAt bytes i))) ≡ true → Old (record { 0 = i }) ≡ homeOf b (slotsFrom named bytes 8 0)
   unfolding homeOf pick
   sought-here h e =
-      let p = stands (isNamed t i) (sameBytes b (bodyIn (slotAt bytes i))) (slotsFrom t bytes (8 - (i + 1)) (i + 1)) refl e in
-      let f : inSlots b (slotsIn t bytes) ≡ true = n .found ∙ (ap (inSlots b) (next t bytes i h) ∙ p .0) in
-      let a : slotOf b (slotsFrom t bytes (8 - i) i) ≡ 0 = ap (slotOf b) (next t bytes i h) ∙ p .1 in
-      let c : slotOf b (slotsIn t bytes) ≡ i = omega (arith, n .place, a) in
+      let p = stands (named i) (sameBytes b (bodyIn (slotAt bytes i))) (slotsFrom named bytes (8 - (i + 1)) (i + 1)) refl e in
+      let f : inSlots b (slotsFrom named bytes 8 0) ≡ true = n .found ∙ (ap (inSlots b) (next named bytes i h) ∙ p .0) in
+      let a : slotOf b (slotsFrom named bytes (8 - i) i) ≡ 0 = ap (slotOf b) (next named bytes i h) ∙ p .1 in
+      let c : slotOf b (slotsFrom named bytes 8 0) ≡ i = omega (arith, n .place, a) in
       rw (f, c) refl
 
-  pub sought-none : 8 ≤ i → emptyHome (slotsIn t bytes) ≡ homeOf b (slotsIn t bytes)
+  pub sought-none : 8 ≤ i → emptyHome (slotsFrom named bytes 8 0) ≡ homeOf b (slotsFrom named bytes 8 0)
   unfolding inSlots slotsFrom homeOf pick
   sought-none h =
       let e : 8 - i ≡ 0 = omega arith in
-      let a : inSlots b (slotsFrom t bytes (8 - i) i) ≡ false = rw e refl in
+      let a : inSlots b (slotsFrom named bytes (8 - i) i) ≡ false = rw e refl in
       rw (n .found ∙ a) refl
 
 -- ---- slots cleared one after the other
 
-pub cleared-next : (t u : Table) (i : ℕ) (store : List ℕ) → i < 8
-    → clearedFrom t u (8 - i) i store ≡ clearedFrom t u (8 - (i + 1)) (i + 1) (pick (isNamed t i && not (isNamed u i)) (slotSet store i empty) store)
+pub cleared-next : (was is : ℕ → Bool) (i : ℕ) (store : List ℕ) → i < 8
+    → clearedFrom was is (8 - i) i store ≡ clearedFrom was is (8 - (i + 1)) (i + 1) (pick (was i && not (is i)) (slotSet store i empty) store)
 unfolding clearedFrom
-cleared-next t u i store h =
+cleared-next was is i store h =
     let e : 8 - i ≡ suc (8 - (i + 1)) = omega arith in
     let f : i + 1 ≡ suc i = omega arith in
     rw (e, f) refl
 
-pub cleared-all : (t u : Table) (i : ℕ) (store : List ℕ) → 8 ≤ i → clearedFrom t u (8 - i) i store ≡ store
+pub cleared-all : (was is : ℕ → Bool) (i : ℕ) (store : List ℕ) → 8 ≤ i → clearedFrom was is (8 - i) i store ≡ store
 unfolding clearedFrom
-cleared-all t u i store h = let e : 8 - i ≡ 0 = omega arith in rw e refl
+cleared-all was is i store h = let e : 8 - i ≡ 0 = omega arith in rw e refl
 
 -- ---- one slot: cleared where it has lost its last name
 

@@ -1,14 +1,17 @@
 -- Where a granted body goes, and the slots that no segment names any more.
 use Prim.Native.Nat.{ℕ, zero, suc}
-use mathlib.Core.Bool.{not, _&&_}
+use mathlib.Core.Bool.{Bool, false, not, _&&_}
 use mathlib.Core.List.{List, [], _∷_}
+use lib.ListN.{getD}
 use Rattle.base.specs.Answer.{pick}
-use Rattle.segments.specs.declared.Table.{Table}
-use Rattle.segments.specs.Segments.{isNamed}
 use Rattle.store.specs.Store.{Body, Slot, empty, holds, slotSet}
 use Rattle.reference.specs.Model.{inSlots, noneEmpty, slotOf}
 use Rattle.slots.specs.declared.home.Home.{Home}
 use Rattle.slots.specs.declared.home.Home.the-variants.{Old, New, Nowhere}
+
+-- which slots are named, by a list of truth values
+abbrev pub isSet : List Bool → ℕ → Bool
+isSet named i = getD named i false
 
 -- the number of "the lowest unnamed one"
 unfoldable pub lowestEmpty : List Slot → ℕ
@@ -23,8 +26,9 @@ emptyHome ss = pick (noneEmpty ss) Nowhere (New (record { 0 = lowestEmpty ss }))
 unfoldable pub homeOf : Body → List Slot → Home
 homeOf b ss = pick (inSlots b ss) (Old (record { 0 = slotOf b ss })) (emptyHome ss)
 
--- "A slot that no segment names is all zeros": of the k slots from slot i on, those that only the table before the event names
-unfoldable pub clearedFrom : Table → Table → ℕ → ℕ → List ℕ → List ℕ
-clearedFrom t u zero i store = store
-clearedFrom t u (suc k) i store =
-    clearedFrom t u k (suc i) (pick (isNamed t i && not (isNamed u i)) (slotSet store i empty) store)
+-- "A slot that no segment names is all zeros": of the k slots from slot i on, those that were named before an event
+-- and are not after it
+unfoldable pub clearedFrom : (ℕ → Bool) → (ℕ → Bool) → ℕ → ℕ → List ℕ → List ℕ
+clearedFrom was is zero i store = store
+clearedFrom was is (suc k) i store =
+    clearedFrom was is k (suc i) (pick (was i && not (is i)) (slotSet store i empty) store)

@@ -1,12 +1,10 @@
 // The slot of a granted body.
 use base::SlotNumber;
-use segments::Table;
 ghost use mathlib.Core.Path.{_≡_};
 ghost use mathlib.Core.List.{List};
 ghost use Prim.Native.Nat.{ℕ};
-ghost use Rattle.lookup.specs.Lookup.{namedSlots};
-ghost use Rattle.reference.specs.Sound.{slotsIn};
-ghost use Rattle.slots.specs.Slots.{emptyHome, homeOf};
+ghost use Rattle.reference.specs.Sound.{slotsFrom};
+ghost use Rattle.slots.specs.Slots.{emptyHome, homeOf, isSet};
 
 // The slot that holds a body; else the lowest one that no segment names; else none.
 pub enum Home {
@@ -17,7 +15,7 @@ pub enum Home {
 
 // `named` says of each slot whether a segment names it.
 fn unnamed(named: [bool; 8]) -> Home
-    ensures { λ r. ⌜ ((t : Table) (bytes : List ℕ) → named ≡ namedSlots t → r ≡ emptyHome (slotsIn t bytes)) ⌝ }
+    ensures { λ r. ⌜ ((bytes : List ℕ) → r ≡ emptyHome (slotsFrom (isSet named) bytes 8 0)) ⌝ }
 {
     let mut i: u32 = 0;
     while i < 8 {
@@ -30,10 +28,9 @@ fn unnamed(named: [bool; 8]) -> Home
     Home::Nowhere
 }
 
-pub fn find_home(t: Table, store: &[u8], body: &[u8]) -> Home
-    ensures { λ r. ⌜ r ≡ homeOf (now (body .entry)) (slotsIn t (now (store .entry))) ⌝ }
+pub fn find_home(named: [bool; 8], store: &[u8], body: &[u8]) -> Home
+    ensures { λ r. ⌜ r ≡ homeOf (now (body .entry)) (slotsFrom (isSet named) (now (store .entry)) 8 0) ⌝ }
 {
-    let named = lookup::named_slots(t);
     let mut i: u32 = 0;
     while i < 8 {
         let k = i as usize;

@@ -5,17 +5,14 @@ use mathlib.Core.Bool.{Bool, true, false, not, _&&_}
 use mathlib.Core.List.{List}
 use native.Mathlib.Numerals.{add-one}
 use native.Mathlib.Omega.{arith}
-use borrow.Author.Tests.{eq-eqb, eqb-false, eqb-true, le-ltb, lt-ltb, ne-eqb}
-use lib.Dec.{eqb}
+use borrow.Author.Tests.{eq-eqb, le-ltb, lt-ltb, ne-eqb}
 use lib.ListN.{length, drop, getD, drop-of-length-le}
 use lib.Seq.{drop-cons}
-use Rattle.base.specs.Answer.{pick}
 use Rattle.segments.specs.declared.Segment.{Segment}
 use Rattle.segments.specs.declared.Segments.{Segments}
-use Rattle.segments.specs.declared.Table.{Table}
 use Rattle.segments.specs.Segments.{listOf, sameRight}
 use Rattle.lookup.proofs.LookupLaws.{next-segment}
-use Rattle.reference.specs.Sound.{allBlank, apart, apartFromNext, inOrder, isBlank, isFit, segmentsSound}
+use Rattle.reference.specs.Sound.{allBlank, apart, apartFromNext, inOrder, isBlank, isFit}
 
 -- ---- two neighbours
 
@@ -67,32 +64,3 @@ pub blank-passed : (l : List Segment) (k : ℕ) (d : Segment) (z : Bool) → k <
     → (z && allBlank (drop k l)) ≡ ((z && isBlank (getD l k d)) && allBlank (drop (k + 1) l))
 blank-passed l k d true h = blank-next l k d h
 blank-passed l k d false h = refl
-
--- ---- both iomodes, the first i of them passed
-
-module _ (t : Table) (i : ℕ) where
-  pub one-unsound : (1 ≤ i → segmentsSound (t .read) ≡ true) → segmentsSound (pick (eqb i 0) (t .read) (t .rw)) ≡ false
-      → false ≡ (segmentsSound (t .read) && segmentsSound (t .rw))
-  unfolding pick
-  one-unsound p e = go (eqb i 0) refl e
-    where
-      go : (b : Bool) → eqb i 0 ≡ b → segmentsSound (pick b (t .read) (t .rw)) ≡ false → false ≡ (segmentsSound (t .read) && segmentsSound (t .rw))
-      go true h k = rw k
-      go false h k = let n = eqb-false i 0 h in rw (p (omega arith), k)
-
-  module _ (e : segmentsSound (pick (eqb i 0) (t .read) (t .rw)) ≡ true) where
-    pub read-passed : (1 ≤ i → segmentsSound (t .read) ≡ true) → segmentsSound (t .read) ≡ true
-    unfolding pick
-    read-passed p = go (eqb i 0) refl e
-      where
-        go : (b : Bool) → eqb i 0 ≡ b → segmentsSound (pick b (t .read) (t .rw)) ≡ true → segmentsSound (t .read) ≡ true
-        go true h k = k
-        go false h k = let n = eqb-false i 0 h in p (omega arith)
-
-    pub rw-passed : 1 ≤ i → segmentsSound (t .rw) ≡ true
-    unfolding pick
-    rw-passed h = go (eqb i 0) refl e
-      where
-        go : (b : Bool) → eqb i 0 ≡ b → segmentsSound (pick b (t .read) (t .rw)) ≡ true → segmentsSound (t .rw) ≡ true
-        go true z k = let n = eqb-true i 0 z in absurd (omega arith)
-        go false z k = k

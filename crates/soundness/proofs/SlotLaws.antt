@@ -45,27 +45,27 @@ slot-alike true c ss = refl
 slot-alike false c ss = refl
 
 pub held-next : (t : Table) (store : List ℕ) (x : Body) (n i : ℕ) → i < n
-    → inSlots x (slotsFrom t store (n - i) i) ≡ ((isNamed t i && sameBytes x (bodyIn (slotAt store i))) || inSlots x (slotsFrom t store (n - (i + 1)) (i + 1)))
+    → inSlots x (slotsFrom (isNamed t) store (n - i) i) ≡ ((isNamed t i && sameBytes x (bodyIn (slotAt store i))) || inSlots x (slotsFrom (isNamed t) store (n - (i + 1)) (i + 1)))
 unfolding slotsFrom
 held-next t store x n i h =
     let e : n - i ≡ suc (n - (i + 1)) = omega arith in
-    rw (e, add-one i) (slot-or (isNamed t i) x (bodyIn (slotAt store i)) (slotsFrom t store (n - suc i) (suc i)))
+    rw (e, add-one i) (slot-or (isNamed t i) x (bodyIn (slotAt store i)) (slotsFrom (isNamed t) store (n - suc i) (suc i)))
 
-pub held-none : (t : Table) (store : List ℕ) (x : Body) (n i : ℕ) → n ≤ i → inSlots x (slotsFrom t store (n - i) i) ≡ false
+pub held-none : (t : Table) (store : List ℕ) (x : Body) (n i : ℕ) → n ≤ i → inSlots x (slotsFrom (isNamed t) store (n - i) i) ≡ false
 unfolding slotsFrom inSlots
 held-none t store x n i h =
     let e : n - i ≡ 0 = omega arith in
     rw e
 
 pub alike-next : (t : Table) (store : List ℕ) (n i : ℕ) → i < n
-    → noTwoAlike (slotsFrom t store (n - i) i)
-    ≡ (not (isNamed t i && inSlots (bodyIn (slotAt store i)) (slotsFrom t store (n - (i + 1)) (i + 1))) && noTwoAlike (slotsFrom t store (n - (i + 1)) (i + 1)))
+    → noTwoAlike (slotsFrom (isNamed t) store (n - i) i)
+    ≡ (not (isNamed t i && inSlots (bodyIn (slotAt store i)) (slotsFrom (isNamed t) store (n - (i + 1)) (i + 1))) && noTwoAlike (slotsFrom (isNamed t) store (n - (i + 1)) (i + 1)))
 unfolding slotsFrom
 alike-next t store n i h =
     let e : n - i ≡ suc (n - (i + 1)) = omega arith in
-    rw (e, add-one i) (slot-alike (isNamed t i) (bodyIn (slotAt store i)) (slotsFrom t store (n - suc i) (suc i)))
+    rw (e, add-one i) (slot-alike (isNamed t i) (bodyIn (slotAt store i)) (slotsFrom (isNamed t) store (n - suc i) (suc i)))
 
-pub alike-none : (t : Table) (store : List ℕ) (n i : ℕ) → n ≤ i → noTwoAlike (slotsFrom t store (n - i) i) ≡ true
+pub alike-none : (t : Table) (store : List ℕ) (n i : ℕ) → n ≤ i → noTwoAlike (slotsFrom (isNamed t) store (n - i) i) ≡ true
 unfolding slotsFrom noTwoAlike
 alike-none t store n i h =
     let e : n - i ≡ 0 = omega arith in

@@ -1,14 +1,21 @@
--- What the judgement of a table and a store comes to, besides whether they are sound: the layout body in a slot.
+-- What the judgement of a table and a store comes to, besides whether they are sound: the slots that are named, and the
+-- layout body in one.
 use Prim.Native.Nat.{ℕ}
-use mathlib.Core.Bool.{_&&_}
+use mathlib.Core.Bool.{Bool, false, _&&_}
 use mathlib.Core.List.{List}
 use lib.Dec.{ltb}
+use lib.ListN.{replicate}
 use Rattle.base.specs.Answer.{Answer, refused, pick}
 use Rattle.layout.specs.Layouts.{Layout, layoutBody}
 use Rattle.segments.specs.declared.Table.{Table}
 use Rattle.segments.specs.Segments.{isNamed}
+use Rattle.lookup.specs.Lookup.{namedSlots}
 use Rattle.store.specs.Store.{bodyIn, slotAt}
 use Rattle.reference.specs.Sound.{sound}
+
+-- of each slot whether a segment names it; of an unsound table none
+unfoldable pub namedJudged : Table → List ℕ → List Bool
+namedJudged t store = pick (sound t store) (namedSlots t) (replicate 8 false)
 
 -- the layout body in a slot, where it is one of the first n and a segment names it
 unfoldable pub layoutNamed : Table → List ℕ → ℕ → ℕ → Answer Layout

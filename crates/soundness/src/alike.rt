@@ -13,7 +13,7 @@ ghost use Rattle.reference.specs.Sound.{noTwoAlike, slotsFrom, slotsIn};
 // Whether a slot from this one on holds the body.
 fn is_held_from(named: [bool; 8], store: &[u8], from: SlotNumber, body: &[u8]) -> bool
     ensures { λ r. ⌜ ((t : Table) → named ≡ namedSlots t
-        → r ≡ inSlots (now (body .entry)) (slotsFrom t (now (store .entry)) (8 - from .0) (from .0))) ⌝ }
+        → r ≡ inSlots (now (body .entry)) (slotsFrom (isNamed t) (now (store .entry)) (8 - from .0) (from .0))) ⌝ }
 {
     let mut j = from.0;
     while j < 8 {
@@ -32,7 +32,7 @@ fn is_held_again(named: [bool; 8], store: &[u8], i: SlotNumber) -> bool
     ensures { λ r. ⌜ ((t : Table) → named ≡ namedSlots t
         → r ≡ (isNamed t (i .0)
         && inSlots (bodyIn (slotAt (now (store .entry)) (i .0)))
-        (slotsFrom t (now (store .entry)) (8 - (i .0 + 1)) (i .0 + 1)))) ⌝ }
+        (slotsFrom (isNamed t) (now (store .entry)) (8 - (i .0 + 1)) (i .0 + 1)))) ⌝ }
 {
     let k = i.0 as usize;
     if !named[k] {

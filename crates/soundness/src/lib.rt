@@ -4,7 +4,7 @@ use segments::Table;
 ghost use mathlib.Core.Path.{_≡_};
 ghost use Rattle.layout.specs.Answers.{answerOfLayout, startsIn};
 ghost use Rattle.reference.specs.Sound.{sound};
-ghost use Rattle.soundness.specs.Judgements.{layoutJudged};
+ghost use Rattle.soundness.specs.Judgements.{layoutJudged, namedJudged};
 
 mod alike;
 mod lists;
@@ -12,11 +12,18 @@ mod slots;
 
 pub use slots::Judged;
 
+// The verdict, and which slots segments name; of an unsound table none.
+pub struct Soundness {
+    pub named: [bool; 8],
+    pub sound: bool,
+}
+
 // The store's length is tested first, since the slots are looked at by their places.
-pub fn judge(t: Table, store: &[u8], wanted: SlotNumber) -> Judged
+pub fn judge_and_read(t: Table, store: &[u8], wanted: SlotNumber) -> Judged
     ensures { λ r. ⌜ (r .sound ≡ sound t (now (store .entry)))
         × (answerOfLayout (r .read .answer) (r .read .starts) ≡ layoutJudged t (now (store .entry)) (wanted .0))
-        × (r .read .starts ≡ startsIn (layoutJudged t (now (store .entry)) (wanted .0))) ⌝ }
+        × (r .read .starts ≡ startsIn (layoutJudged t (now (store .entry)) (wanted .0)))
+        × (r .named ≡ namedJudged t (now (store .entry))) ⌝ }
 {
     if store.len() != 32768 {
         return slots::unsound();
@@ -35,9 +42,13 @@ pub fn judge(t: Table, store: &[u8], wanted: SlotNumber) -> Judged
     j
 }
 
-pub fn sound(t: Table, store: &[u8]) -> bool
-    ensures { λ r. ⌜ r ≡ sound t (now (store .entry)) ⌝ }
+pub fn judge(t: Table, store: &[u8]) -> Soundness
+    ensures { λ r. ⌜ (r .sound ≡ sound t (now (store .entry))) × (r .named ≡ namedJudged t (now (store .entry))) ⌝ }
 {
-    let j = judge(t, store, SlotNumber(0));
-    j.sound
+    let j = judge_and_read(t, store, SlotNumber(0));
+    let named = j.named;
+    Soundness {
+        named,
+        sound: j.sound,
+    }
 }

@@ -5,8 +5,6 @@ use segments::Segments;
 use segments::Table;
 ghost use mathlib.Core.Path.{_≡_};
 ghost use mathlib.Core.Bool.{_&&_};
-ghost use lib.Dec.{eqb};
-ghost use Rattle.base.specs.Answer.{pick};
 ghost use Rattle.reference.specs.Sound.{apart, hasSlot, isBlank, isFit, segmentsSound};
 
 fn has_slot(r: Right) -> bool
@@ -88,22 +86,12 @@ fn segments_sound(g: Segments) -> bool
     blank
 }
 
-fn list_in(t: Table, i: u32) -> Segments
-    ensures { λ r. ⌜ r ≡ pick (eqb i 0) (t .read) (t .rw) ⌝ }
-{
-    if i == 0 {
-        return t.read;
-    }
-    t.rw
-}
-
-// One place that asks, in a turn for each iomode: a function that is called in two places is not inlined, and copies the list once more.
 pub(crate) fn lists_sound(t: Table) -> bool
     ensures { λ r. ⌜ r ≡ (segmentsSound (t .read) && segmentsSound (t .rw)) ⌝ }
 {
     let mut i: u32 = 0;
     while i < 2 {
-        let g = list_in(t, i);
+        let g = segments::list_in(t, i);
         if !segments_sound(g) {
             return false;
         }

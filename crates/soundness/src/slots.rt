@@ -17,23 +17,30 @@ ghost use Rattle.store.specs.Store.{bodyIn};
 ghost use Rattle.reference.specs.Sound.{isAccepted, slotSound, slotsSound};
 ghost use Rattle.soundness.specs.Judgements.{layoutNamed};
 
-// `read` is what the layout body in one slot reads as, the one that was asked for: a lookup would read it again.
-// Where nothing was read, it is refused as unsound, and its starts are 0.
+// `read` is what the layout body in one slot reads as, the one that was asked for: a lookup would read it again. Where
+// nothing was read, it is refused as unsound, and its starts are 0. `named` says of each slot whether a segment names
+// it; of an unsound table none.
 pub struct Judged {
     pub read: LayoutRead,
+    pub named: [bool; 8],
     pub sound: bool,
 }
 
 pub(crate) fn unsound() -> Judged
     ensures { λ r. ⌜ (r .sound ≡ false)
         × (answerOfLayout (r .read .answer) (r .read .starts) ≡ refused 20)
-        × (r .read .starts ≡ replicate 128 0) ⌝ }
+        × (r .read .starts ≡ replicate 128 0)
+        × (r .named ≡ replicate 8 false) ⌝ }
 {
     let read = LayoutRead {
         answer: LayoutAnswer::Refused(Refusal::Unsound),
         starts: [0u16; 128],
     };
-    Judged { read, sound: false }
+    Judged {
+        read,
+        named: [false; 8],
+        sound: false,
+    }
 }
 
 fn is_accepted(answer: LayoutAnswer) -> bool
@@ -68,7 +75,8 @@ pub(crate) fn judge_slots(named: [bool; 8], store: &[u8], wanted: SlotNumber) ->
         → (r .sound ≡ slotsSound t (now (store .entry)) 8 0)
         × (r .sound ≡ true
         → (answerOfLayout (r .read .answer) (r .read .starts) ≡ layoutNamed t (now (store .entry)) (wanted .0) 8)
-        × (r .read .starts ≡ startsIn (layoutNamed t (now (store .entry)) (wanted .0) 8)))) ⌝ }
+        × (r .read .starts ≡ startsIn (layoutNamed t (now (store .entry)) (wanted .0) 8))
+        × (r .named ≡ namedSlots t))) ⌝ }
 {
     let none = unsound();
     let mut read = none.read;
@@ -92,5 +100,9 @@ pub(crate) fn judge_slots(named: [bool; 8], store: &[u8], wanted: SlotNumber) ->
         }
         i += 1;
     }
-    Judged { read, sound: true }
+    Judged {
+        read,
+        named,
+        sound: true,
+    }
 }

@@ -1,30 +1,21 @@
 -- `slots::home::find_home` meets its contract: no slot before the one looked at holds the body.
 use Prim.Native.Nat.{_-_, _≤_}
-use Rattle.lookup.proofs.NamedLaws.{named-here}
-use Rattle.lookup.specs.Lookup.{namedSlots}
-use Rattle.numbers.specs.Numbers.{sameBytes}
-use Rattle.segments.specs.declared.Table.{Table}
 use Rattle.slots.proofs.SearchLaws.{SoughtTo, sought-here, sought-next, sought-none, sought-start}
-use Rattle.store.specs.Store.{bodyIn, slotAt}
+use Rattle.slots.specs.Slots.{isSet}
 use borrow.Author.Needs.{needs}
-use denote.Ref.{now}
-use mathlib.Core.Bool.{Bool, _&&_}
-use mathlib.Core.Path.{_≡_, sym, ap, _∙_}
+use mathlib.Core.Path.{sym, _∙_}
 use native.Mathlib.Omega.{arith}
 use Rattle.slots.proofs.home.find_home.Statement.{statement}
 use Rattle.slots.proofs.home.find_home.Tie as tie
 
 abbrev Inv-loop : tie.InvT-loop
-Inv-loop store body named i₀ i = (i ≤ 8) × ((t : Table) → named ≡ namedSlots t → SoughtTo body t store i)
+Inv-loop store body named i₀ i = (i ≤ 8) × SoughtTo body (isSet named) store i
 
 abbrev μ-loop : tie.MeasureT-loop
 μ-loop store body named i₀ i = 8 - i
 
-named-slots-requires : tie.Need-named-slots-requires Inv-loop μ-loop
-named-slots-requires c κs = search needs
-
 loop-holds : tie.Need-loop-holds Inv-loop μ-loop
-loop-holds c = (omega arith, λ t e. sought-start _ t _)
+loop-holds c = (omega arith, sought-start _ _ _)
 
 cast-k : tie.Need-cast-k Inv-loop μ-loop
 cast-k c = search needs
@@ -38,10 +29,7 @@ holds-body-requires c κs = search needs
 returns : tie.Need-returns Inv-loop μ-loop
 returns c =
     let l = c .before .before .before .loop in
-    let a = c .before .before .before .before .before .before .before .args in
-    let e = c .before .before .before .before .named-slots .ensures in
-    let test : Bool → Bool = λ b. b && sameBytes (now (a .body)) (bodyIn (slotAt (now (a .store)) (l .i))) in
-    sought-here _ (a .t) _ (l .i) (l .inv .1 (a .t) e) (omega arith) (ap test (named-here (a .t) _ (l .i) e (omega arith)) ∙ (sym (c .before .holds-body .ensures) ∙ c .if1 .taken))
+    sought-here _ _ _ (l .i) (l .inv .1) (omega arith) (sym (c .before .holds-body .ensures) ∙ c .if1 .taken)
 
 add-i : tie.Need-add-i Inv-loop μ-loop
 add-i c = omega arith
@@ -52,18 +40,13 @@ loop-less c = omega arith
 loop-again : tie.Need-loop-again Inv-loop μ-loop
 loop-again c =
     let l = c .before .before .before .loop in
-    let a = c .before .before .before .before .before .before .before .args in
-    let test : Bool → Bool = λ b. b && sameBytes (now (a .body)) (bodyIn (slotAt (now (a .store)) (l .i))) in
-    (omega arith, λ t e. sought-next _ t _ (l .i) (l .inv .1 t e) (omega arith) (ap test (named-here t _ (l .i) e (omega arith)) ∙ (sym (c .before .holds-body .ensures) ∙ c .if1 .left)))
+    (omega arith, sought-next _ _ _ (l .i) (l .inv .1) (omega arith) (sym (c .before .holds-body .ensures) ∙ c .if1 .left))
 
 unnamed-requires : tie.Need-unnamed-requires Inv-loop μ-loop
 unnamed-requires c κs = search needs
 
 returns-2 : tie.Need-returns-2 Inv-loop μ-loop
-returns-2 c =
-    let t = c .before .before .before .before .before .before .args .t in
-    let e = c .before .before .before .named-slots .ensures in
-    c .unnamed .ensures t _ e ∙ sought-none _ t _ _ (c .before .before .loop .inv .1 t e) (omega arith)
+returns-2 c = c .unnamed .ensures _ ∙ sought-none _ _ _ _ (c .before .before .loop .inv .1) (omega arith)
 
 pub find-home-spec : {M : Type 1} → statement M
 find-home-spec =
@@ -71,7 +54,6 @@ find-home-spec =
     (tie.spec
     Inv-loop
     μ-loop
-    named-slots-requires
     loop-holds
     cast-k
     array-read-holds-body

@@ -5,6 +5,7 @@ use Rattle.lookup.proofs.NamedLaws.{named-here}
 use Rattle.lookup.specs.Lookup.{namedSlots}
 use Rattle.reference.specs.Model.{inSlots}
 use Rattle.reference.specs.Sound.{slotsFrom}
+use Rattle.segments.specs.Segments.{isNamed}
 use Rattle.segments.specs.declared.Table.{Table}
 use Rattle.soundness.proofs.SlotLaws.{held-next, held-none}
 use borrow.Author.Needs.{needs}
@@ -16,7 +17,7 @@ use Rattle.soundness.proofs.alike.is_held_from.Tie as tie
 
 abbrev Inv-loop : tie.InvT-loop
 Inv-loop store body named j₀ j =
-    (t : Table) → named ≡ namedSlots t → inSlots body (slotsFrom t store (8 - j₀) j₀) ≡ inSlots body (slotsFrom t store (8 - j) j)
+    (t : Table) → named ≡ namedSlots t → inSlots body (slotsFrom (isNamed t) store (8 - j₀) j₀) ≡ inSlots body (slotsFrom (isNamed t) store (8 - j) j)
 
 abbrev μ-loop : tie.MeasureT-loop
 μ-loop store body named j₀ j = 8 - j

@@ -3,6 +3,7 @@
 use Prim.Native.Nat.{_-_, _≤_}
 use Rattle.lookup.specs.Lookup.{namedSlots}
 use Rattle.reference.specs.Sound.{noTwoAlike, slotsFrom, slotsIn}
+use Rattle.segments.specs.Segments.{isNamed}
 use Rattle.segments.specs.declared.Table.{Table}
 use Rattle.soundness.proofs.SlotLaws.{alike-next, alike-none}
 use borrow.Author.Needs.{needs}
@@ -14,7 +15,7 @@ use Rattle.soundness.proofs.alike.no_two_alike.Tie as tie
 
 abbrev Inv-loop : tie.InvT-loop
 Inv-loop named store i₀ i =
-    (i ≤ 8) × ((t : Table) → named ≡ namedSlots t → noTwoAlike (slotsFrom t store 8 0) ≡ noTwoAlike (slotsFrom t store (8 - i) i))
+    (i ≤ 8) × ((t : Table) → named ≡ namedSlots t → noTwoAlike (slotsFrom (isNamed t) store 8 0) ≡ noTwoAlike (slotsFrom (isNamed t) store (8 - i) i))
 
 abbrev μ-loop : tie.MeasureT-loop
 μ-loop named store i₀ i = 8 - i

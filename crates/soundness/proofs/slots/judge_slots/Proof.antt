@@ -133,7 +133,7 @@ returns-3 c =
     let a = c .before .before .before .before .before .args in
     λ t e.
     let r = ap (layoutNamed t (now (a .store)) (a .wanted .0)) z in
-    (sym (l .inv .1 t e .0 ∙ slots-none t (now (a .store)) 8 (l .i) (omega arith)), λ k. (l .inv .1 t e .1 ∙ r, l .inv .1 t e .2 ∙ ap startsIn r))
+    (sym (l .inv .1 t e .0 ∙ slots-none t (now (a .store)) 8 (l .i) (omega arith)), λ k. (l .inv .1 t e .1 ∙ r, l .inv .1 t e .2 ∙ ap startsIn r, e))
 
 pub judge-slots-spec : {M : Type 1} → statement M
 judge-slots-spec =
