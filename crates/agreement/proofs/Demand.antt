@@ -12,14 +12,14 @@ use Rattle.reference.proofs.Inv.{GoodOrder}
 use Rattle.reference.proofs.SoundLaws.{model-sound}
 use Rattle.reference.proofs.OwnLaws.{own-reads}
 use Rattle.reference.proofs.FromStep.{demand-3, start-table}
-use Rattle.events.specs.Events.{called, obeyed}
+use Rattle.events.specs.Events.{called, obeyed, stage}
 use Rattle.agreement.proofs.StepLaws.{order-met}
 
 -- an event whose own bytes and numbers are read
 obeyed-met : (a : Answer Order) (M : Model) → GoodOrder a
     → ((o : Order) → a ≡ accepted o → (o .first ≤ o .last) × (o .last ≤ lastByte)) → Invariant lastByte M
     → obeyed a (tableOf lastByte M) (storeOf (M .slots)) ≡ leftBy (tableOf lastByte) a M
-unfolding obeyed answerTo modelAfter leftBy
+unfolding obeyed stage answerTo modelAfter leftBy
 obeyed-met (refused n) M g r v = refl
 obeyed-met (accepted o) M g r v = let h = r o refl in order-met lastByte M o v g (h .0) (h .1)
 

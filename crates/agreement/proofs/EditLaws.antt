@@ -7,7 +7,7 @@ use native.Mathlib.Omega.{arith}
 use borrow.Author.Tests.{le-leb, leb-true, leb-false, lt-ltb, le-ltb}
 use lib.Dec.{leb, ltb}
 use lib.ListN.{length}
-use Rattle.base.specs.Answer.{pick}
+use Rattle.base.specs.Answer.{accepted, refused, pick}
 use Rattle.base.proofs.AnswerLaws.{pick-true}
 use Rattle.segments.specs.declared.Segment.{Segment}
 use Rattle.segments.specs.declared.Segments.{Segments}
@@ -61,20 +61,19 @@ module _ (N : ℕ) (M : Model) (o : Order) (c : Change) (rising : o .first ≤ o
         rw (list-kept m e) (sym (pick-true (leb (length (segmentsIn N M m)) 32) _ _ (le-leb _ 32 (few m))))
 
     both-fit : (a b : Bool) (g h k l : Segments)
-        → bothFit (record { read = g; rw = h })
-        (pick a (record { segments = k; fits = true }) (record { segments = g; fits = false }))
+        → bothFit (pick a (record { segments = k; fits = true }) (record { segments = g; fits = false }))
         (pick b (record { segments = l; fits = true }) (record { segments = h; fits = false }))
-        ≡ pick (not a || not b) (record { table = record { read = g; rw = h }; fits = false }) (record { table = record { read = k; rw = l }; fits = true })
+        ≡ pick (not a || not b) (refused 23) (accepted (record { read = k; rw = l }))
     unfolding pick
     both-fit true true g h k l = refl
     both-fit true false g h k l = refl
     both-fit false b g h k l = refl
 
-    -- 23 of the model is the table's "does not fit"
+    -- 23 of the model is the table's
     pub edit-model : tableEdited c (o .iomode) (o .first) (o .last) (tableOf N M)
-        ≡ pick (tooMany N (act N o M)) (record { table = tableOf N M; fits = false }) (record { table = tableOf N (act N o M); fits = true })
+        ≡ pick (tooMany N (act N o M)) (refused 23) (accepted (tableOf N (act N o M)))
     unfolding tableEdited tableOf tooMany fitted
     edit-model =
-        (λ i. bothFit (record { read = inPlaces (segmentsIn N M READ); rw = inPlaces (segmentsIn N M RW) }) (edited-in READ _ refl i) (edited-in RW _ refl i))
+        (λ i. bothFit (edited-in READ _ refl i) (edited-in RW _ refl i))
         ∙ (both-fit (leb (length (segmentsIn N (act N o M) READ)) 32) (leb (length (segmentsIn N (act N o M) RW)) 32) _ _ _ _
         ∙ rw (too-many (length (segmentsIn N (act N o M) READ)), too-many (length (segmentsIn N (act N o M) RW))))

@@ -2,7 +2,7 @@
 use Prim.Native.Nat.{ℕ, _≤_, min}
 use mathlib.Core.Path.{_≡_, refl, ap}
 use mathlib.Core.Bool.{Bool, true, false}
-use mathlib.Core.List.{List}
+use mathlib.Core.List.{List, []}
 use native.Mathlib.Omega.{arith}
 use borrow.Author.Tests.{le-leb}
 use lib.Dec.{eqb}
@@ -28,7 +28,10 @@ use Rattle.reference.specs.Sound.{sound}
 use Rattle.reference.specs.AnyTable.{EndsBy}
 use Rattle.reference.proofs.SoundParts.{listed, sounds}
 use Rattle.reference.proofs.FromSound.{ends-below}
-use Rattle.events.specs.Events.{afterRecall, called, carried, obeyed, refusedWith, settled}
+use Rattle.store.specs.Store.{Body}
+use Rattle.events.specs.Events.{called, carried, changeOf, obeyed, recallRuled, refusedWith, stage}
+use Rattle.events.specs.declared.step.Step.{Step}
+use Rattle.events.specs.declared.step.Step.the-variants as step
 
 -- ---- the edit
 
@@ -43,15 +46,12 @@ module _ (c : Change) (z : KeepsNone c) where
       rw (le-leb (length (edited c 0 lastByte (listOf g))) 32 m) refl
 
   module _ (t : Table) (store : List ℕ) (judged-sound : sound t store ≡ true) (read : Each (EndsBy lastByte) (listOf (t .read))) (rw-list : Each (EndsBy lastByte) (listOf (t .rw))) where
-    table-fits : (i : Iomode) → tableEdited c i 0 lastByte t .fits ≡ true
-    unfolding tableEdited pick
-    table-fits i =
+    -- the step that makes this change
+    change-accepted : (p : Step) (b : Body) (i : Iomode) → changeOf p ≡ c → carried p b i 0 lastByte t store .answer ≡ 0
+    unfolding carried tableEdited stage pick
+    change-accepted p b i e =
         let few : (m : Mode) → segmentsFor t m .count ≤ 32 = λ m. listed t store (sounds t store judged-sound) m .few in
-        rw (edit-fits (actsOn i READ) (t .read) (few READ) read, edit-fits (actsOn i RW) (t .rw) (few RW) rw-list) refl
-
-    change-accepted : (i : Iomode) → carried c i 0 lastByte t store store .answer ≡ 0
-    unfolding carried settled pick
-    change-accepted i = rw (table-fits i) refl
+        rw (e, edit-fits (actsOn i READ) (t .read) (few READ) read, edit-fits (actsOn i RW) (t .rw) (few RW) rw-list) refl
 
 -- ---- the three events
 
@@ -76,31 +76,31 @@ module _ (t : Table) (store : List ℕ) (read : Each (EndsBy lastByte) (listOf (
       go false h k = omega arith
 
   pub whole-return : (number : ℕ) → called (Return 0 toTheEnd number) t store .answer ≡ 23 → ⊥
-  unfolding own rangeOrder rangeLast given pick obeyed
+  unfolding own rangeOrder rangeLast given pick obeyed stage
   whole-return number = judged (Return 0 toTheEnd number) (λ s. go s (iomodeOf number) (iomode-answer number))
     where
       go : sound t store ≡ true → (a : Answer Iomode) → (a ≡ refused 23 → ⊥)
-          → obeyed (given a λ i. accepted (record { deed = returns; iomode = i; first = 0; last = lastByte })) t store .answer ≡ 23 → ⊥
-      go s (accepted i) h e = let z = change-accepted change.Clear refl t store s read rw-list i in omega (arith, e, z)
+          → obeyed (given a λ i. accepted (record { deed = returns; iomode = i; first = 0; last = lastByte; len = toTheEnd })) t store .answer ≡ 23 → ⊥
+      go s (accepted i) h e = let z = change-accepted change.Clear refl t store s read rw-list step.Clear [] i refl in omega (arith, e, z)
       go s (refused n) h e = h (ap refused e)
 
   pub whole-recall : (number : ℕ) → called (Recall 0 toTheEnd number) t store .answer ≡ 23 → ⊥
-  unfolding own rangeOrder rangeLast given pick obeyed afterRecall
+  unfolding own rangeOrder rangeLast given pick obeyed recallRuled stage
   whole-recall number = judged (Recall 0 toTheEnd number) (λ s. go s (iomodeOf number) (iomode-answer number))
     where
       held : sound t store ≡ true → (i : Iomode) (b : Bool)
-          → pick b (carried change.Recall i 0 lastByte t store store) (refusedWith 25 t store) .answer ≡ 23 → ⊥
-      held s i true e = let z = change-accepted change.Recall refl t store s read rw-list i in omega (arith, e, z)
+          → stage (pick b (accepted step.Recall) (refused 25)) t store (λ p. carried p [] i 0 lastByte t store) .answer ≡ 23 → ⊥
+      held s i true e = let z = change-accepted change.Recall refl t store s read rw-list step.Recall [] i refl in omega (arith, e, z)
       held s i false e = omega arith
 
       go : sound t store ≡ true → (a : Answer Iomode) → (a ≡ refused 23 → ⊥)
-          → obeyed (given a λ i. accepted (record { deed = recalls; iomode = i; first = 0; last = lastByte })) t store .answer ≡ 23 → ⊥
+          → obeyed (given a λ i. accepted (record { deed = recalls; iomode = i; first = 0; last = lastByte; len = toTheEnd })) t store .answer ≡ 23 → ⊥
       go s (accepted i) h e = held s i (tableMeets (satisfies Held) i 0 lastByte t) e
       go s (refused n) h e = h (ap refused e)
 
   pub whole-revoke : called Revoke t store .answer ≡ 23 → ⊥
-  unfolding own obeyed
+  unfolding own obeyed stage
   whole-revoke =
       judged Revoke λ s e.
-      let z = change-accepted change.Clear refl t store s read rw-list Any in
+      let z = change-accepted change.Clear refl t store s read rw-list step.Clear [] Any refl in
       omega (arith, e, z)

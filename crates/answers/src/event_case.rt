@@ -1,10 +1,10 @@
 // The four events. Each borrows the first bytes of the store.
 use crate::state::State;
-use events::Outcome;
+use events::Event;
+use events::Numbers;
 use events::Verdict;
 use print::say;
 use print::say_refused;
-use segments::Table;
 
 fn say_name(kind: u32) {
     match kind {
@@ -23,22 +23,21 @@ fn say_verdict(kind: u32, v: Verdict) {
     }
 }
 
-// A recall or a return. The payload has: offset, length, iomode.
-fn call_of_range(kind: u32, t: Table, store: &mut [u8], payload: &[u8]) -> Outcome {
-    let offset = numbers::le8(payload, 0);
-    let length = numbers::le8(payload, 8);
-    let iomode = numbers::le4(payload, 16);
-    if kind == 4 {
-        return events::recall(t, store, offset, length, iomode);
+// The payload of a recall or a return has: offset, length, iomode.
+fn numbers_in(payload: &[u8]) -> Numbers {
+    Numbers {
+        offset: numbers::le8(payload, 0),
+        len: numbers::le8(payload, 8),
+        iomode: numbers::le4(payload, 16),
     }
-    events::layout_return(t, store, offset, length, iomode)
 }
 
-fn call(kind: u32, t: Table, store: &mut [u8], payload: &[u8]) -> Outcome {
+fn event_of(kind: u32, payload: &[u8]) -> Event {
     match kind {
-        1 => events::grant(t, store, payload),
-        5 => events::revoke(t, store),
-        _ => call_of_range(kind, t, store, payload),
+        1 => Event::Grant,
+        4 => Event::Recall(numbers_in(payload)),
+        5 => Event::Revoke,
+        _ => Event::Return(numbers_in(payload)),
     }
 }
 
@@ -48,7 +47,8 @@ pub(crate) fn take_event(kind: u32, payload: &[u8], state: State, store: &mut [u
         return state;
     }
     let table = state.table;
-    let o = call(kind, table, &mut store[..borrowed], payload);
+    let e = event_of(kind, payload);
+    let o = events::apply(table, &mut store[..borrowed], e, payload);
     let verdict = o.verdict;
     let left = o.table;
     say_verdict(kind, verdict);

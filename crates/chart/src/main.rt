@@ -10,6 +10,7 @@ use arguments::Wish;
 use base::Iomode;
 use columns::find_columns;
 use drawing::Subject;
+use events::Event;
 use events::Verdict;
 use file::ReadFile;
 use layout::Summary;
@@ -79,7 +80,7 @@ fn draw(
 // The layout is granted to an empty table with an empty store, and the chart shows what is answered from these.
 fn chart(bytes: &[u8], wish: Wish) {
     let mut store = [0u8; 32768];
-    let o = events::grant(segments::empty_table(), &mut store, bytes);
+    let o = events::apply(segments::empty_table(), &mut store, Event::Grant, bytes);
     let v = o.verdict;
     if let Verdict::Refused(e) = v {
         say_refused(e);

@@ -10,8 +10,7 @@ use lib.ListN.{length, getD, replicate}
 use Rattle.base.specs.Answer.{Answer, accepted, refused, given, pick}
 use Rattle.base.specs.Lists.{Each}
 use Rattle.base.specs.Ranges.{lastByte, largestSum, requestLast}
-use Rattle.base.specs.declared.iomode.Iomode.the-variants.{ReadWrite}
-use Rattle.base.proofs.AnswerLaws.{gave, never-accepted, same-answer}
+use Rattle.base.proofs.AnswerLaws.{never-accepted}
 use Rattle.segments.specs.declared.Table.{Table}
 use Rattle.segments.specs.declared.Right.the-variants.{None}
 use Rattle.segments.specs.declared.Segment.{Segment}
@@ -26,7 +25,7 @@ use Rattle.events.specs.Events.{called}
 use Rattle.agreement.proofs.Demand.{calls-meet-demand-3}
 use Rattle.agreement.proofs.Unchanged.{sound-after}
 use Rattle.route.specs.Routes.{iomodeFor, routed}
-use Rattle.route.specs.Rights.{ServedUnder, byGrant, servedByRights, servedOf}
+use Rattle.route.specs.Rights.{servedByRights, servedOf}
 use Rattle.route.specs.declared.piece.Piece.{Piece}
 use Rattle.route.proofs.PieceLaws.{by-parts, piece-in-request, piece-in-segment}
 use Rattle.route.proofs.RightsServed.{granted-under, routed-by-rights}

@@ -15,25 +15,23 @@ use Rattle.base.specs.declared.iomode.Iomode.the-variants.{Any}
 use Rattle.layout4.specs.Layout4s.{layout4}
 use Rattle.segments.specs.declared.Table.{Table}
 use Rattle.segments.specs.Segments.{emptyTable, listOf}
-use Rattle.lookup.specs.declared.range.Condition.the-variants.{Held, Recalled}
-use Rattle.lookup.specs.Lookup.{satisfies, tableMeets}
 use Rattle.table.specs.declared.change.Change.{Change}
-use Rattle.table.specs.declared.change.Change.the-variants as change
 use Rattle.table.specs.Edits.{tableEdited}
-use Rattle.store.specs.Store.{Body, holds, slotSet}
+use Rattle.store.specs.Store.{Body}
 use Rattle.slots.specs.declared.home.Home.{Home}
 use Rattle.slots.specs.declared.home.Home.the-variants.{Old, New, Nowhere}
-use Rattle.slots.specs.Slots.{homeOf}
-use Rattle.reference.specs.Model.{Deed, grants, returns, recalls, Event, Grant, Return, Recall, Revoke, Model, Order, act, answerTo, answers, grantOrder, meets, modelAfter, own, rangeOrder, refuse, start, stops21, stops22, stops24, stops25, tooMany, verdict}
-use Rattle.reference.specs.Sound.{slotsIn, sound}
+use Rattle.reference.specs.Model.{Deed, returns, recalls, Event, Grant, Return, Recall, Revoke, Model, Order, act, answerTo, answers, grantOrder, meets, modelAfter, own, rangeOrder, refuse, start, stops21, stops22, stops24, stops25, tooMany, verdict}
+use Rattle.reference.specs.Sound.{sound}
 use Rattle.reference.specs.Claim.{CallResult, Fits, answered}
 use Rattle.reference.specs.AnyTable.{EndsBy}
-use Rattle.events.specs.Events.{afterGrant, afterRecall, byDeed, called, carried, elsewhere, grantedAt, obeyed, refusedWith, settled}
+use Rattle.events.specs.Events.{called, carried, grantAt, grantRuled, obeyed, recallRuled, refusedWith, stage}
+use Rattle.events.specs.declared.step.Step.{Step}
+use Rattle.events.specs.declared.step.Step.the-variants as step
 use Rattle.agreement.proofs.Demand.{calls-meet-demand-3}
 use Rattle.agreement.proofs.WholeFile.{whole-revoke}
 use Rattle.claims.specs.Statements.{isOneOf}
 use Rattle.claims.proofs.BodyRefusals.{layout4-refusals, range-refusals}
-use Rattle.claims.proofs.Faults.{RefusalsIn, accepts, allIn, asked, chosen, in-wider, tested-answer}
+use Rattle.claims.proofs.Faults.{RefusalsIn, accepts, allIn, asked, chosen, in-wider, refuses, tested-answer, wider-answer}
 
 -- ---- an event's own bytes and numbers
 
@@ -74,22 +72,32 @@ module _ (t : Table) (store : List ℕ) where
   answers-with : {ns : List ℕ} (n : ℕ) → isOneOf n ns ≡ true → AnswersIn ns (refusedWith n t store)
   answers-with n h = record { listed = h }
 
-  change-answers : {ns : List ℕ} (c : Change) (i : Iomode) (first last : ℕ) (filled : List ℕ) → isOneOf 0 ns ≡ true → isOneOf 23 ns ≡ true
-      → AnswersIn ns (carried c i first last t store filled)
-  unfolding carried settled
-  change-answers c i first last filled h j = either (tableEdited c i first last t .fits) (record { listed = h }) (answers-with 23 j)
+  stage-answers : {A : Type 0} {ns ms : List ℕ} (a : Answer A) (next : A → CallResult Table) → RefusalsIn ms a → allIn ms ns ≡ true
+      → ((x : A) → AnswersIn ns (next x)) → AnswersIn ns (stage a t store next)
+  unfolding stage
+  stage-answers (accepted x) next r i h = h x
+  stage-answers {ns = ns} {ms = ms} (refused n) next r i h = answers-with n (in-wider ms ns i n (r .refusal n refl))
+
+  edit-refusals : (c : Change) (i : Iomode) (first last : ℕ) → RefusalsIn (23 ∷ []) (tableEdited c i first last t)
+  unfolding tableEdited
+  edit-refusals c i first last = tested-answer _ 23 accepts refl
+
+  change-answers : {ns : List ℕ} (p : Step) (b : Body) (i : Iomode) (first last : ℕ) → isOneOf 0 ns ≡ true → allIn (23 ∷ []) ns ≡ true
+      → AnswersIn ns (carried p b i first last t store)
+  unfolding carried
+  change-answers p b i first last h j = stage-answers _ _ (edit-refusals _ i first last) j λ u. record { listed = h }
 
   -- a question to the event's own bytes and numbers, and what follows it
   asked-answers : {A : Type 0} {ns ms : List ℕ} (a : Answer A) (f : A → Answer Order) → RefusalsIn ms a → allIn ms ns ≡ true
       → ((x : A) → AnswersIn ns (obeyed (f x) t store)) → AnswersIn ns (obeyed (given a f) t store)
-  unfolding obeyed given
+  unfolding obeyed stage given
   asked-answers (accepted x) f r i h = h x
   asked-answers {ns = ns} {ms = ms} (refused n) f r i h = answers-with n (in-wider ms ns i n (r .refusal n refl))
 
   range-answers : {ns : List ℕ} (d : Deed) (offset len number : ℕ) → allIn (5 ∷ []) ns ≡ true → allIn (3 ∷ []) ns ≡ true
-      → ((i : Iomode) (last : ℕ) → AnswersIn ns (byDeed d (record { deed = d; iomode = i; first = offset; last = last }) t store))
+      → ((i : Iomode) (last : ℕ) → AnswersIn ns (obeyed (accepted (record { deed = d; iomode = i; first = offset; last = last; len = len })) t store))
       → AnswersIn ns (obeyed (rangeOrder d offset len number) t store)
-  unfolding rangeOrder obeyed
+  unfolding rangeOrder
   range-answers d offset len number h j k =
       asked-answers (rangeLast offset len) _ (range-refusals offset len) h λ last.
       asked-answers (iomodeOf number) _ (any-iomode-refusals number) j λ i.
@@ -100,48 +108,48 @@ module _ (t : Table) (store : List ℕ) where
   unfolding called
   judged-answers e h k = either (sound t store) k (answers-with 20 h)
 
-  home-answers : {ns : List ℕ} (home : Home) (b : Body) (i : Iomode) (first last : ℕ) → isOneOf 0 ns ≡ true → isOneOf 23 ns ≡ true → isOneOf 24 ns ≡ true
-      → AnswersIn ns (grantedAt home b i first last t store)
-  home-answers (Old s) b i first last h j k = change-answers (change.Grant s) i first last store h j
-  home-answers (New s) b i first last h j k = change-answers (change.Grant s) i first last (slotSet store (s .0) (holds b)) h j
-  home-answers Nowhere b i first last h j k = answers-with 24 k
-
   abbrev grantAnswers : List ℕ
   grantAnswers = 0 ∷ 20 ∷ 1 ∷ 2 ∷ 3 ∷ 4 ∷ 5 ∷ 6 ∷ 8 ∷ 9 ∷ 10 ∷ 11 ∷ 21 ∷ 22 ∷ 24 ∷ 23 ∷ []
 
-  body-answers : (b : Body) (o : Order) → AnswersIn grantAnswers (byDeed (grants b) o t store)
-  unfolding afterGrant
-  body-answers b o =
-      let home = homeOf b (slotsIn t store) in
-      either (tableMeets (satisfies (elsewhere home)) (o .iomode) (o .first) (o .last) t) (answers-with 21 refl)
-      (either (tableMeets (satisfies Recalled) (o .iomode) (o .first) (o .last) t) (answers-with 22 refl)
-      (home-answers home b (o .iomode) (o .first) (o .last) refl refl refl))
+  home-refusals : (home : Home) → RefusalsIn (24 ∷ []) (grantAt home)
+  home-refusals (Old s) = accepts
+  home-refusals (New s) = accepts
+  home-refusals Nowhere = refuses 24 refl
+
+  grant-refusals : (home : Home) (i : Iomode) (first last : ℕ) → RefusalsIn (21 ∷ 22 ∷ 24 ∷ []) (grantRuled home i first last t)
+  unfolding grantRuled
+  grant-refusals home i first last = chosen _ (refuses 21 refl) (chosen _ (refuses 22 refl) (wider-answer (home-refusals home) refl))
+
+  recall-refusals : (i : Iomode) (first last : ℕ) → RefusalsIn (25 ∷ []) (recallRuled i first last t)
+  unfolding recallRuled
+  recall-refusals i first last = tested-answer _ 25 accepts refl
 
   pub grant-answers : (bytes : List ℕ) → isOneOf (called (Grant bytes) t store .answer) grantAnswers ≡ true
-  unfolding own obeyed grantOrder
+  unfolding own obeyed stage grantOrder
   grant-answers bytes =
-      judged-answers (Grant bytes) refl
-      (asked-answers (layout4 bytes) _ (layout4-refusals bytes) refl λ w. body-answers _ (grantOrder bytes w))
+      judged-answers {ns = grantAnswers} (Grant bytes) refl
+      (asked-answers (layout4 bytes) _ (layout4-refusals bytes) refl λ w.
+      stage-answers _ _ (grant-refusals _ (w .frame .iomode) (w .frame .offset) (w .frame .last)) refl λ p. change-answers p _ _ _ _ refl refl)
       .listed
 
   pub return-answers : (offset len number : ℕ) → isOneOf (called (Return offset len number) t store .answer) (0 ∷ 20 ∷ 5 ∷ 3 ∷ 23 ∷ []) ≡ true
-  unfolding own
+  unfolding own obeyed stage
   return-answers offset len number =
       judged-answers {ns = 0 ∷ 20 ∷ 5 ∷ 3 ∷ 23 ∷ []} (Return offset len number) refl
-      (range-answers returns offset len number refl refl λ i last. change-answers change.Clear i offset last store refl refl)
+      (range-answers returns offset len number refl refl λ i last. change-answers step.Clear [] i offset last refl refl)
       .listed
 
   pub recall-answers : (offset len number : ℕ) → isOneOf (called (Recall offset len number) t store .answer) (0 ∷ 20 ∷ 5 ∷ 3 ∷ 25 ∷ 23 ∷ []) ≡ true
-  unfolding own afterRecall
+  unfolding own obeyed stage
   recall-answers offset len number =
       judged-answers {ns = 0 ∷ 20 ∷ 5 ∷ 3 ∷ 25 ∷ 23 ∷ []} (Recall offset len number) refl
       (range-answers recalls offset len number refl refl λ i last.
-      either (tableMeets (satisfies Held) i offset last t) (change-answers change.Recall i offset last store refl refl) (answers-with 25 refl))
+      stage-answers _ _ (recall-refusals i offset last) refl λ p. change-answers p [] i offset last refl refl)
       .listed
 
   revoke-change : AnswersIn (0 ∷ 20 ∷ 23 ∷ []) (called Revoke t store)
-  unfolding own obeyed
-  revoke-change = judged-answers Revoke refl (change-answers change.Clear Any 0 lastByte store refl refl)
+  unfolding own obeyed stage
+  revoke-change = judged-answers Revoke refl (change-answers step.Clear [] Any 0 lastByte refl refl)
 
   pub revoke-answers : Each (EndsBy lastByte) (listOf (t .read)) → Each (EndsBy lastByte) (listOf (t .rw))
       → isOneOf (called Revoke t store .answer) (0 ∷ 20 ∷ []) ≡ true

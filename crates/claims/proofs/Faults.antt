@@ -54,13 +54,13 @@ module _ {A : Type 0} {ns : List ℕ} where
   pub accepts : {a : A} → RefusalsIn ns (accepted a)
   accepts {a = a} = record { refusal = λ n e. never-refused a n e }
 
-  refuses : (n : ℕ) → isOneOf n ns ≡ true → RefusalsIn {A = A} ns (refused n)
+  pub refuses : (n : ℕ) → isOneOf n ns ≡ true → RefusalsIn {A = A} ns (refused n)
   refuses n h = record { refusal = λ k e. rw (← same-refusal n k e) h }
 
   pub wider : {ms : List ℕ} {x : Res A} → FaultsIn ns x → allIn ns ms ≡ true → FaultsIn ms x
   wider {ms = ms} h i = record { fault = λ n e. in-wider ns ms i n (h .fault n e) }
 
-  wider-answer : {ms : List ℕ} {x : Answer A} → RefusalsIn ns x → allIn ns ms ≡ true → RefusalsIn ms x
+  pub wider-answer : {ms : List ℕ} {x : Answer A} → RefusalsIn ns x → allIn ns ms ≡ true → RefusalsIn ms x
   wider-answer {ms = ms} h i = record { refusal = λ n e. in-wider ns ms i n (h .refusal n e) }
 
 -- ---- one after the other

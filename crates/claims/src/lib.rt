@@ -4,7 +4,7 @@
 // The three demands come first, then what follows from each. Of demand 1 "every call ends with an answer" and of demand 2 the first sentence are the
 // contracts themselves: no public function has a `requires`, each returns, and its one `ensures` is an equation with a definition in specs/, which
 // quotes the scope paper. `layoutBody` is what `layout::read_layout` answers, `layout4` `layout4::read_layout4`, `deviceBody` `device::read_device`,
-// `boundTo` `binding::bind`, `reportBody` `report::read_reports`, `reportsWritten` both writers of reports, `called` the four events, `routed`
+// `boundTo` `binding::bind`, `reportBody` `report::read_reports`, `reportsWritten` both writers of reports, `called` `events::apply`, `routed`
 // `route::locate`, `calledOn` the exported events, `routedOn` the exported lookups.
 //
 // `accepted v` is an answer with its value, `refused n` a refusal with the scope paper's number, and `n ≡ 0 → ⊥` says that n is not 0.
@@ -147,10 +147,10 @@ pub fn starts_are_servers()
 
 // ---- Demand 3: the table is the reference model's
 
-// Demand 3, undivided, of the calls that grant, layout_return, recall and revoke are proved to be (the `ensures` in events/src/grants.rt and
-// ranges.rt): after every list of events from the empty table and the zeroed store their answers, table and store are those of the reference model,
-// which the scope paper calls the ledger (reference/specs/Model.antt). `Agreed` in reference/specs/Claim.antt has each sentence as a field or two.
-// All that these calls keep of a file is its table, at first the empty one, and they read an event as `own` does.
+// Demand 3, undivided, of the calls that `events::apply` is proved to be (its `ensures`, in events/src/stages.rt): after every list of events from the
+// empty table and the zeroed store their answers, table and store are those of the reference model, which the scope paper calls the ledger
+// (reference/specs/Model.antt). `Agreed` in reference/specs/Claim.antt has each sentence as a field or two. All that these calls keep of a file is its
+// table, at first the empty one, and they read an event as `own` does.
 pub fn demand_3()
     ensures { λ r. ⌜ Demand3 (λ t. t) emptyTable own called ⌝ }
 {}

@@ -1,12 +1,14 @@
 // The events. A refused one gives back the record that it was handed, and leaves the store as it was.
 use base::Refusal;
+use events::Event;
+use events::Numbers;
 use events::Outcome;
 use events::Verdict;
 use record::TableRecord;
 ghost use mathlib.Core.Path.{_≡_};
 ghost use Rattle.record.specs.Records.{recordOf};
 ghost use Rattle.reference.specs.Model.{Grant, Recall, Return, Revoke};
-ghost use Rattle.events.specs.Answers.{numberOfVerdict};
+ghost use Rattle.events.specs.Answers.{eventOf, numberOfVerdict};
 ghost use Rattle.driver.specs.Calls.{calledOn, emptyRecord, recordResultOf};
 
 #[repr(C)]
@@ -51,6 +53,18 @@ pub extern "C" fn basilothyn_empty_table() -> TableRecord
     record::record_of(segments::empty_table())
 }
 
+fn call(table: TableRecord, store: &mut [u8], e: Event, bytes: &[u8]) -> EventResult
+    ensures { λ r. ⌜ recordResultOf r (now (store .exit))
+        ≡ calledOn (eventOf e (now (bytes .entry))) table (now (store .entry)) ⌝ }
+{
+    let taken = record::table_of(table);
+    if !taken.fits {
+        return unsound(table);
+    }
+    let t = taken.table;
+    result_of(events::apply(t, store, e, bytes))
+}
+
 #[no_mangle]
 pub extern "C" fn basilothyn_grant(
     table: TableRecord,
@@ -59,12 +73,7 @@ pub extern "C" fn basilothyn_grant(
 ) -> EventResult
     ensures { λ r. ⌜ recordResultOf r (now (store .exit)) ≡ calledOn (Grant (now (bytes .entry))) table (now (store .entry)) ⌝ }
 {
-    let taken = record::table_of(table);
-    if !taken.fits {
-        return unsound(table);
-    }
-    let t = taken.table;
-    result_of(events::grant(t, store, bytes))
+    call(table, store, Event::Grant, bytes)
 }
 
 #[no_mangle]
@@ -77,12 +86,12 @@ pub extern "C" fn basilothyn_return(
 ) -> EventResult
     ensures { λ r. ⌜ recordResultOf r (now (store .exit)) ≡ calledOn (Return offset len iomode) table (now (store .entry)) ⌝ }
 {
-    let taken = record::table_of(table);
-    if !taken.fits {
-        return unsound(table);
-    }
-    let t = taken.table;
-    result_of(events::layout_return(t, store, offset, len, iomode))
+    let n = Numbers {
+        offset,
+        len,
+        iomode,
+    };
+    call(table, store, Event::Return(n), b"")
 }
 
 #[no_mangle]
@@ -95,22 +104,17 @@ pub extern "C" fn basilothyn_recall(
 ) -> EventResult
     ensures { λ r. ⌜ recordResultOf r (now (store .exit)) ≡ calledOn (Recall offset len iomode) table (now (store .entry)) ⌝ }
 {
-    let taken = record::table_of(table);
-    if !taken.fits {
-        return unsound(table);
-    }
-    let t = taken.table;
-    result_of(events::recall(t, store, offset, len, iomode))
+    let n = Numbers {
+        offset,
+        len,
+        iomode,
+    };
+    call(table, store, Event::Recall(n), b"")
 }
 
 #[no_mangle]
 pub extern "C" fn basilothyn_revoke(table: TableRecord, store: &mut [u8]) -> EventResult
     ensures { λ r. ⌜ recordResultOf r (now (store .exit)) ≡ calledOn Revoke table (now (store .entry)) ⌝ }
 {
-    let taken = record::table_of(table);
-    if !taken.fits {
-        return unsound(table);
-    }
-    let t = taken.table;
-    result_of(events::revoke(t, store))
+    call(table, store, Event::Revoke, b"")
 }

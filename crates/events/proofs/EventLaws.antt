@@ -1,90 +1,36 @@
 -- What each way out of the events' functions leaves.
 use Prim.Native.Nat.{ℕ}
-use mathlib.Core.Path.{_≡_, refl, sym, ap}
-use mathlib.Core.Bool.{true, false}
+use mathlib.Core.Path.{_≡_, refl, sym, ap, _∙_}
+use mathlib.Core.Bool.{Bool, true, false}
 use mathlib.Core.List.{List}
+use Rattle.base.proofs.AnswerLaws.{never-accepted, same-answer}
 use Rattle.base.specs.Answer.{accepted, refused, given, pick}
 use Rattle.base.specs.Refusals.{numberOf}
 use Rattle.base.specs.declared.refusal.Refusal.{Refusal}
-use Rattle.base.specs.declared.refusal.Refusal.the-variants.{TooManySegments}
 use Rattle.base.specs.declared.iomode.Iomode.{Iomode}
-use Rattle.numbers.specs.Numbers.{bytesFrom}
 use Rattle.layout4.specs.Layout4s.{Whole, layout4}
 use Rattle.segments.specs.declared.Table.{Table}
+use Rattle.segments.specs.Segments.{isNamed}
+use Rattle.lookup.specs.declared.range.Condition.{Condition}
 use Rattle.lookup.specs.declared.range.Condition.the-variants.{Held, Recalled}
-use Rattle.lookup.specs.Lookup.{satisfies, tableMeets}
-use Rattle.table.specs.declared.change.Change.{Change}
-use Rattle.table.specs.declared.change.Change.the-variants as change
-use Rattle.table.specs.declared.change.EditedTable.{EditedTable}
+use Rattle.lookup.specs.Lookup.{namedSlots, satisfies, tableMeets}
 use Rattle.table.specs.Edits.{tableEdited}
 use Rattle.store.specs.Store.{Body}
-use Rattle.reference.specs.Model.{Event, Grant, Order, grantOrder, own}
-use Rattle.reference.specs.Sound.{slotsIn, sound}
+use Rattle.reference.specs.Model as model
+use Rattle.reference.specs.Model.{Event, Grant, grantOrder, own}
+use Rattle.reference.specs.Sound.{slotsFrom, slotsIn, sound}
 use Rattle.slots.specs.declared.home.Home.{Home}
-use Rattle.slots.specs.Slots.{clearedFrom, homeOf}
+use Rattle.slots.specs.Slots.{clearedFrom, isSet}
+use Rattle.events.specs.declared.order.Deed.{Deed}
+use Rattle.events.specs.declared.order.Deed.the-variants as deed
 use Rattle.events.specs.declared.outcome.Outcome.{Outcome}
 use Rattle.events.specs.declared.outcome.Verdict.the-variants.{Accepted, Refused}
-use Rattle.events.specs.Answers.{resultOf}
-use Rattle.events.specs.Events as calls
-use Rattle.events.specs.Events.{afterGrant, called, carried, elsewhere, grantedAt, obeyed, refusedWith, settled}
+use Rattle.events.specs.declared.step.Step.{Step}
+use Rattle.events.specs.declared.step.Step.the-variants as step
+use Rattle.events.specs.Answers.{deedOf, resultOf}
+use Rattle.events.specs.Events.{bodyGranted, called, carried, changeOf, elsewhere, grantAt, grantRuled, obeyed, recallRuled, refusedWith, ruled, stage, storeAfter}
 
-module _ (t : Table) (store : List ℕ) where
-  pub refused-left : (o : Outcome) (e : Refusal) → o ≡ record { verdict = Refused e; table = t } → resultOf o store ≡ refusedWith (numberOf e) t store
-  refused-left o e h = ap (λ (o : Outcome). resultOf o store) h
-
-  -- ---- the edit
-
-  module _ (c : Change) (i : Iomode) (first last : ℕ) (filled : List ℕ) (e : EditedTable) (edited : e ≡ tableEdited c i first last t) where
-    pub does-not-fit : (o : Outcome) → e .fits ≡ false → o ≡ record { verdict = Refused TooManySegments; table = t }
-        → resultOf o store ≡ carried c i first last t store filled
-    unfolding carried settled pick
-    does-not-fit o f h = rw (← edited, f) (refused-left o TooManySegments h)
-
-    pub is-done : (o : Outcome) (after : List ℕ) → e .fits ≡ true → o ≡ record { verdict = Accepted; table = e .table }
-        → after ≡ clearedFrom t (e .table) 8 0 filled → resultOf o after ≡ carried c i first last t store filled
-    unfolding carried settled pick
-    is-done o after f h k = rw (← edited, f) (λ j. resultOf (h j) (k j))
-
-  -- ---- the tests
-
-  pub nothing-held : (i : Iomode) (first last : ℕ) → tableMeets (satisfies Held) i first last t ≡ false
-      → calls.afterRecall i first last t store ≡ refusedWith 25 t store
-  unfolding calls.afterRecall pick
-  nothing-held i first last e = rw e refl
-
-  pub something-held : (i : Iomode) (first last : ℕ) → tableMeets (satisfies Held) i first last t ≡ true
-      → calls.afterRecall i first last t store ≡ carried change.Recall i first last t store store
-  unfolding calls.afterRecall pick
-  something-held i first last e = rw e refl
-
-  module _ (home : Home) (b : Body) (i : Iomode) (first last : ℕ) where
-    pub held-elsewhere : tableMeets (satisfies (elsewhere home)) i first last t ≡ true → afterGrant home b i first last t store ≡ refusedWith 21 t store
-    unfolding afterGrant pick
-    held-elsewhere e = rw e refl
-
-    module _ (e : tableMeets (satisfies (elsewhere home)) i first last t ≡ false) where
-      pub is-recalled : tableMeets (satisfies Recalled) i first last t ≡ true → afterGrant home b i first last t store ≡ refusedWith 22 t store
-      unfolding afterGrant pick
-      is-recalled f = rw (e, f) refl
-
-      pub may-be-granted : tableMeets (satisfies Recalled) i first last t ≡ false
-          → afterGrant home b i first last t store ≡ grantedAt home b i first last t store
-      unfolding afterGrant pick
-      may-be-granted f = rw (e, f) refl
-
-  -- ---- the event
-
-  pub is-unsound : (e : Event) → sound t store ≡ false → called e t store ≡ refusedWith 20 t store
-  unfolding called pick
-  is-unsound e h = rw h refl
-
-  pub own-refused : (e : Event) (n : ℕ) → sound t store ≡ true → own e ≡ refused n → called e t store ≡ refusedWith n t store
-  unfolding called obeyed pick
-  own-refused e n h k = rw (h, k) refl
-
-  pub own-accepted : (e : Event) (o : Order) → sound t store ≡ true → own e ≡ accepted o → called e t store ≡ calls.byDeed (o .deed) o t store
-  unfolding called obeyed pick
-  own-accepted e o h k = rw (h, k) refl
+-- ---- the event's own bytes
 
 pub grant-refused : (bytes : List ℕ) (n : ℕ) → layout4 bytes ≡ refused n → own (Grant bytes) ≡ refused n
 unfolding own given
@@ -94,9 +40,96 @@ pub grant-read : (bytes : List ℕ) (w : Whole) → layout4 bytes ≡ accepted w
 unfolding own given
 grant-read bytes w e = rw e refl
 
--- the body that is handed on is the n bytes at its place
-pub grant-done : (t : Table) (store bytes : List ℕ) (w : Whole) (n : ℕ) → sound t store ≡ true → layout4 bytes ≡ accepted w → n ≡ w .frame .body .len
-    → afterGrant (homeOf (bytesFrom n bytes (w .frame .body .start)) (slotsIn t store)) (bytesFrom n bytes (w .frame .body .start)) (w .frame .iomode) (w .frame .offset) (w .frame .last) t store
-    ≡ called (Grant bytes) t store
-unfolding grantOrder
-grant-done t store bytes w n s e h = rw h (sym (own-accepted t store (Grant bytes) (grantOrder bytes w) s (grant-read bytes w e)))
+-- ---- the truth values of a table
+
+pub slots-named : (named : List Bool) (t : Table) (store : List ℕ) → named ≡ namedSlots t → slotsFrom (isSet named) store 8 0 ≡ slotsIn t store
+unfolding slotsIn slotsFrom namedSlots
+slots-named named t store e = rw e refl
+
+pub cleared-named : (was : List Bool) (u : Table) (store : List ℕ)
+    → clearedFrom (isSet was) (isSet (namedSlots u)) 8 0 store ≡ clearedFrom (isSet was) (isNamed u) 8 0 store
+unfolding clearedFrom namedSlots
+cleared-named was u store = refl
+
+pub stored-named : (s : Step) (b : Body) (named : List Bool) (t : Table) (is : ℕ → Bool) (store : List ℕ) → named ≡ namedSlots t
+    → storeAfter s b (isSet named) is store ≡ storeAfter s b (isNamed t) is store
+unfolding clearedFrom namedSlots
+stored-named (step.GrantKnown i) b named t is store e = refl
+stored-named (step.GrantNew i) b named t is store e = refl
+stored-named step.Clear b named t is store e = rw e refl
+stored-named step.Recall b named t is store e = refl
+
+-- ---- what the rights say
+
+-- h: the slot that was found; c: what was asked of the rights for it
+module _ (h home : Home) (c : Condition) (i : Iomode) (first last : ℕ) (t : Table) (found : h ≡ home) (asked : c ≡ elsewhere h) where
+  other : tableMeets (satisfies (elsewhere home)) i first last t ≡ tableMeets (satisfies c) i first last t
+  other = ap (λ (k : Home). tableMeets (satisfies (elsewhere k)) i first last t) (sym found) ∙ ap (λ (k : Condition). tableMeets (satisfies k) i first last t) (sym asked)
+
+  pub held-elsewhere : tableMeets (satisfies c) i first last t ≡ true → grantRuled home i first last t ≡ refused 21
+  unfolding grantRuled pick
+  held-elsewhere e = rw (other ∙ e) refl
+
+  module _ (e : tableMeets (satisfies c) i first last t ≡ false) where
+    pub is-recalled : tableMeets (satisfies Recalled) i first last t ≡ true → grantRuled home i first last t ≡ refused 22
+    unfolding grantRuled pick
+    is-recalled f = rw (other ∙ e, f) refl
+
+    pub may-be-granted : tableMeets (satisfies Recalled) i first last t ≡ false → grantRuled home i first last t ≡ grantAt h
+    unfolding grantRuled pick
+    may-be-granted f = rw (other ∙ e, f) (ap grantAt (sym found))
+
+-- ---- the stages
+
+module _ (t : Table) (store : List ℕ) where
+  pub refused-left : (o : Outcome) (e : Refusal) → o ≡ record { verdict = Refused e; table = t } → resultOf o store ≡ refusedWith (numberOf e) t store
+  refused-left o e h = ap (λ (o : Outcome). resultOf o store) h
+
+  module _ (s : Step) (b : Body) (i : Iomode) (first last : ℕ) where
+    pub does-not-fit : tableEdited (changeOf s) i first last t ≡ refused 23 → carried s b i first last t store ≡ refusedWith 23 t store
+    unfolding carried stage
+    does-not-fit e = rw e refl
+
+    pub is-done : (u : Table) (o : Outcome) (after : List ℕ) → tableEdited (changeOf s) i first last t ≡ accepted u
+        → o ≡ record { verdict = Accepted; table = u } → after ≡ storeAfter s b (isNamed t) (isNamed u) store
+        → resultOf o after ≡ carried s b i first last t store
+    unfolding carried stage
+    is-done u o after e h k = rw e (λ j. resultOf (h j) (k j))
+
+  pub not-allowed : (o : model.Order) (n : ℕ) → ruled (o .deed) (o .iomode) (o .first) (o .last) t store ≡ refused n
+      → obeyed (accepted o) t store ≡ refusedWith n t store
+  unfolding obeyed stage
+  not-allowed o n e = rw e refl
+
+  -- only a grant has a body, and only a grant looks at it
+  with-body : (d : Deed) (b : Body) (i : Iomode) (first last : ℕ) (s : Step) → ruled (deedOf d b) i first last t store ≡ accepted s
+      → carried s b i first last t store ≡ carried s (bodyGranted (deedOf d b)) i first last t store
+  unfolding carried recallRuled pick
+  with-body deed.Grant b i first last s e = refl
+  with-body deed.Return b i first last s e = rw (← (same-answer e)) refl
+  with-body deed.Recall b i first last s e = go (tableMeets (satisfies Held) i first last t) e
+    where
+      go : (m : Bool) → pick m (accepted step.Recall) (refused 25) ≡ accepted s
+          → carried s b i first last t store ≡ carried s (bodyGranted (deedOf deed.Recall b)) i first last t store
+      go true f = rw (← (same-answer f)) refl
+      go false f = never-accepted 25 s f
+  with-body deed.Revoke b i first last s e = rw (← (same-answer e)) refl
+
+  pub is-allowed : (d : Deed) (b : Body) (i : Iomode) (first last len : ℕ) (s : Step) → ruled (deedOf d b) i first last t store ≡ accepted s
+      → carried s b i first last t store
+      ≡ obeyed (accepted (record { deed = deedOf d b; iomode = i; first = first; last = last; len = len })) t store
+  unfolding obeyed stage
+  is-allowed d b i first last len s e = with-body d b i first last s e ∙ rw e refl
+
+  pub is-unsound : (e : Event) → sound t store ≡ false → called e t store ≡ refusedWith 20 t store
+  unfolding called pick
+  is-unsound e h = rw h refl
+
+  module _ (e : Event) (judged-sound : sound t store ≡ true) where
+    pub own-refused : (n : ℕ) → own e ≡ refused n → called e t store ≡ refusedWith n t store
+    unfolding called obeyed stage pick
+    own-refused n k = rw (judged-sound, k) refl
+
+    pub own-accepted : (o : model.Order) → own e ≡ accepted o → called e t store ≡ obeyed (accepted o) t store
+    unfolding called pick
+    own-accepted o k = rw (judged-sound, k) refl

@@ -1,14 +1,16 @@
-// The four events on a table and a body store. Each judges in stages: soundness, the event's own bytes and numbers, the rights in its range, the
-// edit; the store is written after the last test has passed.
-mod change;
-mod grants;
+// The four events on a table and a body store. Each goes through five stages: soundness; the event's own bytes and
+// numbers; what the rights say; the edit; the store, which is written after the last test has passed.
+mod carry;
+mod event;
+mod order;
 mod outcome;
-mod ranges;
-mod span;
+mod stages;
+mod step;
 
-pub use grants::grant;
+pub use event::Event;
+pub use event::Numbers;
 pub use outcome::Outcome;
 pub use outcome::Verdict;
-pub use ranges::layout_return;
-pub use ranges::recall;
-pub use ranges::revoke;
+pub use stages::apply;
+// What the definitions of the stages speak of.
+pub use step::Step;

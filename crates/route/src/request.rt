@@ -70,7 +70,7 @@ pub fn locate(t: Table, store: &[u8], write: bool, offset: u64, len: u64) -> Loc
     ensures { λ r. ⌜ answerOfLocated r ≡ routed write t (now (store .entry)) offset len ⌝ }
 {
     let wanted = likely_slot(write, t, offset);
-    let j = soundness::judge(t, store, wanted);
+    let j = soundness::judge_and_read(t, store, wanted);
     if !j.sound {
         return Located::Refused(Refusal::Unsound);
     }

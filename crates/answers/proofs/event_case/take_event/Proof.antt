@@ -8,14 +8,17 @@ use Rattle.answers.proofs.event_case.take_event.Tie as tie
 returns : tie.Need-returns
 returns c = search needs
 
-slice-relend-prefix-call : tie.Need-slice-relend-prefix-call
-slice-relend-prefix-call c = search needs
+event-of-requires : tie.Need-event-of-requires
+event-of-requires c κs = search needs
 
-slice-aggregate-call : tie.Need-slice-aggregate-call
-slice-aggregate-call c = simp length-take (omega arith)
+slice-relend-prefix-apply : tie.Need-slice-relend-prefix-apply
+slice-relend-prefix-apply c = search needs
 
-call-requires : tie.Need-call-requires
-call-requires c κs = search needs
+slice-aggregate-apply : tie.Need-slice-aggregate-apply
+slice-aggregate-apply c = simp length-take (omega arith)
+
+apply-requires : tie.Need-apply-requires
+apply-requires c κs = search needs
 
 say-verdict-requires : tie.Need-say-verdict-requires
 say-verdict-requires c κs = search needs
@@ -31,9 +34,10 @@ take-event-spec =
     tie.close
     (tie.spec
     returns
-    slice-relend-prefix-call
-    slice-aggregate-call
-    call-requires
+    event-of-requires
+    slice-relend-prefix-apply
+    slice-aggregate-apply
+    apply-requires
     say-verdict-requires
     same-length
     returns-2)

@@ -16,13 +16,13 @@ use Rattle.route.proofs.request.locate.Tie as tie
 likely-slot-requires : tie.Need-likely-slot-requires
 likely-slot-requires c κs = search needs
 
-judge-requires : tie.Need-judge-requires
-judge-requires c κs = search needs
+judge-and-read-requires : tie.Need-judge-and-read-requires
+judge-and-read-requires c κs = search needs
 
 returns : tie.Need-returns
 returns c =
     let a = c .before .before .before .before .before .args in
-    sym (is-unsound (a .write) (a .t) (now (a .store)) (a .offset) (a .len) (sym (c .before .before .judge .ensures .0) ∙ not-true _ (c .if1 .taken)))
+    sym (is-unsound (a .write) (a .t) (now (a .store)) (a .offset) (a .len) (sym (c .before .before .judge-and-read .ensures .0) ∙ not-true _ (c .if1 .taken)))
 
 request-last-requires : tie.Need-request-last-requires
 request-last-requires c κs = search needs
@@ -39,13 +39,13 @@ why-last-requires c κs = search needs
 returns-2 : tie.Need-returns-2
 returns-2 c =
     let a = c .before .before .before .before .before .before .before .before .before .args in
-    sym (range-refused (a .write) (a .t) (now (a .store)) (a .offset) (a .len) _ (sym (c .before .before .before .before .before .before .judge .ensures .0) ∙ not-false _ (c .before .before .before .before .if1 .left))
+    sym (range-refused (a .write) (a .t) (now (a .store)) (a .offset) (a .len) _ (sym (c .before .before .before .before .before .before .judge-and-read .ensures .0) ∙ not-false _ (c .before .before .before .before .if1 .left))
     (handed answerOfLast whyLast refused (c .before .before .before .request-last .ensures) (c .before .enum-told2 .given .1) (c .why-last .ensures) refl))
 
 find-serving-requires : tie.Need-find-serving-requires
 find-serving-requires c κs =
     let a = c .before .before .before .before .before .before .before .before .before .args in
-    judged-known (a .t) (now (a .store)) (c .before .before .before .before .before .before .before .likely-slot .result .0) (c .before .before .before .before .before .before .judge .result .read .answer) (c .before .before .before .before .before .before .judge .result .read .starts) (c .before .before .before .before .before .before .judge .ensures .1)
+    judged-known (a .t) (now (a .store)) (c .before .before .before .before .before .before .before .likely-slot .result .0) (c .before .before .before .before .before .before .judge-and-read .result .read .answer) (c .before .before .before .before .before .before .judge-and-read .result .read .starts) (c .before .before .before .before .before .before .judge-and-read .ensures .1)
 
 enum-known-a : tie.Need-enum-known-a
 enum-known-a c = search needs
@@ -60,7 +60,7 @@ returns-3 : tie.Need-returns-3
 returns-3 c =
     let a = c .before .before .before .before .before .before .before .before .before .before .before .before .before .args in
     let starts = c .before .before .before .find-serving .result .starts in
-    sym (not-served (a .write) (a .t) (now (a .store)) (a .offset) (a .len) _ _ (sym (c .before .before .before .before .before .before .before .before .before .before .judge .ensures .0) ∙ not-false _ (c .before .before .before .before .before .before .before .before .if1 .left))
+    sym (not-served (a .write) (a .t) (now (a .store)) (a .offset) (a .len) _ _ (sym (c .before .before .before .before .before .before .before .before .before .before .judge-and-read .ensures .0) ∙ not-false _ (c .before .before .before .before .before .before .before .before .if1 .left))
     (came answerOfLast (c .before .before .before .before .before .before .before .request-last .ensures) (c .before .before .before .before .before .enum-told .given .1))
     (handed (λ (x : ServingAnswer). answerOfServing x starts) whyServing refused (c .before .before .before .find-serving .ensures) (c .before .enum-told3 .given .1) (c .why-serving .ensures) refl))
 
@@ -76,7 +76,7 @@ returns-4 : tie.Need-returns-4
 returns-4 c =
     let a = c .before .before .before .before .before .before .before .before .before .before .before .before .before .before .before .args in
     let starts = c .before .before .before .before .before .find-serving .result .starts in
-    is-served (a .write) (a .t) (now (a .store)) (a .offset) (a .len) _ _ _ (sym (c .before .before .before .before .before .before .before .before .before .before .before .before .judge .ensures .0) ∙ not-false _ (c .before .before .before .before .before .before .before .before .before .before .if1 .left))
+    is-served (a .write) (a .t) (now (a .store)) (a .offset) (a .len) _ _ _ (sym (c .before .before .before .before .before .before .before .before .before .before .before .before .judge-and-read .ensures .0) ∙ not-false _ (c .before .before .before .before .before .before .before .before .before .before .if1 .left))
     (came answerOfLast (c .before .before .before .before .before .before .before .before .before .request-last .ensures) (c .before .before .before .before .before .before .before .enum-told .given .1))
     (came (λ (x : ServingAnswer). answerOfServing x starts) (c .before .before .before .before .before .find-serving .ensures) (c .before .before .before .a .given .1))
     (c .piece-at .ensures)
@@ -86,7 +86,7 @@ locate-spec =
     tie.close
     (tie.spec
     likely-slot-requires
-    judge-requires
+    judge-and-read-requires
     returns
     request-last-requires
     enum-told

@@ -1,0 +1,42 @@
+-- `driver::event::call` meets its contract: the record is no table, or the core answers.
+use Rattle.driver.proofs.CallLaws.{not-called, was-called}
+use borrow.Author.Needs.{needs}
+use borrow.Author.Tests.{not-false, not-true}
+use denote.Ref.{now}
+use Rattle.driver.proofs.event.call.Statement.{statement}
+use Rattle.driver.proofs.event.call.Tie as tie
+
+table-of-requires : tie.Need-table-of-requires
+table-of-requires c κs = search needs
+
+unsound-requires : tie.Need-unsound-requires
+unsound-requires c κs = search needs
+
+returns : tie.Need-returns
+returns c = not-called _ _ (c .before .before .before .table-of .ensures) (now (c .before .before .before .before .before .before .args .store)) _ _ (not-true _ (c .before .if1 .taken)) (c .unsound .ensures)
+
+apply-requires : tie.Need-apply-requires
+apply-requires c κs = search needs
+
+result-of-requires : tie.Need-result-of-requires
+result-of-requires c κs = search needs
+
+same-length : tie.Need-same-length
+same-length c = search needs
+
+returns-2 : tie.Need-returns-2
+returns-2 c =
+    was-called _ _ (c .before .before .before .before .before .before .before .before .table-of .ensures) (now (c .before .before .before .before .before .before .before .before .before .before .before .args .store)) _ _ (not-false _ (c .before .before .before .before .before .before .if1 .left)) (c .before .before .before .apply .result) _ (c .before .before .before .apply .ensures)
+    (c .result-of .ensures)
+
+pub call-spec : {M : Type 1} → statement M
+call-spec =
+    tie.close
+    (tie.spec
+    table-of-requires
+    unsound-requires
+    returns
+    apply-requires
+    result-of-requires
+    same-length
+    returns-2)

@@ -1,0 +1,43 @@
+-- `events::order::own_grant` meets its contract.
+use Rattle.base.specs.Answer.{refused}
+use Rattle.events.proofs.EventLaws.{grant-read, grant-refused}
+use Rattle.layout4.specs.Answers.{answerOfLayout4, whyLayout4}
+use Rattle.layout4.specs.declared.whole.Layout4Answer.{Layout4Answer}
+use Rattle.reference.proofs.OwnLaws.{layout4-read}
+use Rattle.reference.specs.Model.{grantOrder}
+use Rattle.xdr.proofs.Steps.{came, handed}
+use borrow.Author.Needs.{needs}
+use denote.Ref.{now}
+use mathlib.Core.Path.{refl, sym}
+use Rattle.events.proofs.order.own_grant.Statement.{statement}
+use Rattle.events.proofs.order.own_grant.Tie as tie
+
+read-layout4-requires : tie.Need-read-layout4-requires
+read-layout4-requires c κs = search needs
+
+enum-known-a : tie.Need-enum-known-a
+enum-known-a c = search needs
+
+enum-told : tie.Need-enum-told
+enum-told c = search needs
+
+why-layout4-requires : tie.Need-why-layout4-requires
+why-layout4-requires c κs = search needs
+
+returns : tie.Need-returns
+returns c =
+    let starts = c .before .before .before .read-layout4 .result .starts in
+    let k = handed (λ (a : Layout4Answer). answerOfLayout4 a starts) whyLayout4 refused (c .before .before .before .read-layout4 .ensures .0) (c .before .enum-told .given .1) (c .why-layout4 .ensures) refl in
+    (sym (grant-refused (now (c .before .before .before .before .before .args .bytes)) _ k), tt)
+
+returns-2 : tie.Need-returns-2
+unfolding grantOrder
+returns-2 c =
+    let starts = c .before .before .before .before .read-layout4 .result .starts in
+    let k = came (λ (a : Layout4Answer). answerOfLayout4 a starts) (c .before .before .before .before .read-layout4 .ensures .0) (c .before .before .a .given .1) in
+    (sym (grant-read (now (c .before .before .before .before .before .before .args .bytes)) _ k), layout4-read (now (c .before .before .before .before .before .before .args .bytes)) _ k .within)
+
+pub own-grant-spec : {M : Type 1} → statement M
+own-grant-spec =
+    tie.close
+    (tie.spec read-layout4-requires enum-known-a enum-told why-layout4-requires returns returns-2)

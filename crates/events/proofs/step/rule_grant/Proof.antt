@@ -1,0 +1,52 @@
+-- `events::step::rule_grant` meets its contract: 21 is asked before 22, and 22 before 24.
+use Rattle.events.proofs.EventLaws.{held-elsewhere, is-recalled, may-be-granted, slots-named}
+use Rattle.slots.specs.Slots.{homeOf}
+use borrow.Author.Needs.{needs}
+use mathlib.Core.Path.{sym, ap, _∙_}
+use Rattle.events.proofs.step.rule_grant.Statement.{statement}
+use Rattle.events.proofs.step.rule_grant.Tie as tie
+
+find-home-requires : tie.Need-find-home-requires
+find-home-requires c κs = search needs
+
+other-body-requires : tie.Need-other-body-requires
+other-body-requires c κs = search needs
+
+meets-requires : tie.Need-meets-requires
+meets-requires c κs = search needs
+
+returns : tie.Need-returns
+returns c =
+    let found = c .before .before .before .find-home .ensures ∙ ap (homeOf _) (slots-named _ _ _ (c .before .before .before .before .before .before .pre)) in
+    sym (held-elsewhere _ _ _ _ _ _ _ found (c .before .before .other-body .ensures) (sym (c .before .meets .ensures) ∙ c .if1 .taken))
+
+meets-requires-2 : tie.Need-meets-requires-2
+meets-requires-2 c κs = search needs
+
+returns-2 : tie.Need-returns-2
+returns-2 c =
+    let found = c .before .before .before .before .before .find-home .ensures ∙ ap (homeOf _) (slots-named _ _ _ (c .before .before .before .before .before .before .before .before .pre)) in
+    let e = sym (c .before .before .before .meets .ensures) ∙ c .before .before .if1 .left in
+    sym (is-recalled _ _ _ _ _ _ _ found (c .before .before .before .before .other-body .ensures) e (sym (c .before .meets2 .ensures) ∙ c .if2 .taken))
+
+grant-at-requires : tie.Need-grant-at-requires
+grant-at-requires c κs = search needs
+
+returns-3 : tie.Need-returns-3
+returns-3 c =
+    let found = c .before .before .before .before .before .before .find-home .ensures ∙ ap (homeOf _) (slots-named _ _ _ (c .before .before .before .before .before .before .before .before .before .pre)) in
+    let e = sym (c .before .before .before .before .meets .ensures) ∙ c .before .before .before .if1 .left in
+    c .grant-at .ensures ∙ sym (may-be-granted _ _ _ _ _ _ _ found (c .before .before .before .before .before .other-body .ensures) e (sym (c .before .before .meets2 .ensures) ∙ c .before .if2 .left))
+
+pub rule-grant-spec : {M : Type 1} → statement M
+rule-grant-spec =
+    tie.close
+    (tie.spec
+    find-home-requires
+    other-body-requires
+    meets-requires
+    returns
+    meets-requires-2
+    returns-2
+    grant-at-requires
+    returns-3)
