@@ -5,7 +5,7 @@ use mathlib.Core.Bool.{true}
 use mathlib.Core.List.{List}
 use Rattle.base.specs.Ranges.{lastByte}
 use Rattle.segments.specs.declared.Table.{Table}
-use Rattle.reference.specs.Model.{Event, own, tableOf}
+use Rattle.reference.specs.Model.{Event, byOwn, tableOf}
 use Rattle.reference.specs.Sound.{sound}
 use Rattle.reference.specs.Claim.{Fits}
 use Rattle.reference.specs.AnyTable.{Typed, leftBy, modelOf}
@@ -15,7 +15,7 @@ use Rattle.events.specs.Events.{called}
 use Rattle.agreement.proofs.Demand.{step-met}
 
 pub sound-step : (e : Event) (t : Table) (store : List ℕ) → Fits e → Typed lastByte t store → sound t store ≡ true
-    → called e t store ≡ leftBy (tableOf lastByte) (own e) (modelOf t store)
+    → called e t store ≡ leftBy (byOwn lastByte) (tableOf lastByte) e (modelOf t store)
 sound-step e t store f y h =
     let s = sounds t store h in
     sym (ap₂ (called e) (table-of-sound lastByte t store y s) (store-of-sound lastByte t store y s))

@@ -9,12 +9,11 @@ use Rattle.base.specs.Lists.{Each}
 use Rattle.base.specs.Ranges.{lastByte}
 use Rattle.segments.specs.declared.Table.{Table}
 use Rattle.segments.specs.Segments.{emptyTable}
-use Rattle.reference.specs.Model.{Event, Order, own, run, start}
+use Rattle.reference.specs.Model.{Event, Order, byOwn, own, run, start}
 use Rattle.reference.specs.Sound.{sound}
 use Rattle.reference.specs.Claim.{CallResult, Fits, keptLeft, storeLeft}
-use Rattle.reference.proofs.Inv.{start-keeps}
 use Rattle.reference.proofs.SoundLaws.{model-sound}
-use Rattle.reference.proofs.OwnLaws.{own-reads}
+use Rattle.reference.proofs.Laws.{own-lawful}
 use Rattle.reference.proofs.FromStep.{run-keeps}
 use Rattle.events.specs.Events.{called, carried, obeyed, refusedWith, stage}
 use Rattle.agreement.proofs.Demand.{calls-meet-demand-3}
@@ -48,5 +47,5 @@ pub sound-after : (es : List Event) → Each Fits es
     → sound (keptLeft called es emptyTable (replicate 32768 0)) (storeLeft called es emptyTable (replicate 32768 0)) ≡ true
 sound-after es fs =
     let d = calls-meet-demand-3 es fs in
-    let v = run-keeps own-reads lastByte es start fs (start-keeps lastByte) in
-    ap₂ sound (d .same-table) (d .same-store) ∙ model-sound lastByte (run lastByte own es start) v
+    let v = run-keeps own-lawful es fs .0 in
+    ap₂ sound (d .same-table) (d .same-store) ∙ model-sound lastByte (run (byOwn lastByte) es start) v

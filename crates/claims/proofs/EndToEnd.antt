@@ -17,7 +17,7 @@ use Rattle.segments.specs.declared.Segment.{Segment}
 use Rattle.segments.specs.Segments.{Mode, READ, RW, blank, emptyTable, listIn, rightAt}
 use Rattle.segments.proofs.Canon.{Ord, at-in, at-past, canon-ord}
 use Rattle.store.specs.Store.{Body, bodyIn, slotAt}
-use Rattle.reference.specs.Model.{ByteRight, none, granted, recalled, Deed, grants, returns, recalls, revokes, Event, Order, afterAt, covers, own, rightAfter}
+use Rattle.reference.specs.Model.{ByteRight, none, granted, recalled, Deed, grants, returns, recalls, revokes, Event, Order, afterAt, covers, rightAfter}
 use Rattle.reference.specs.Claim.{Fits, acceptedOf, answered, keptLeft, rightGiven, rightIn, storeLeft}
 use Rattle.reference.proofs.SoundParts.{listed, sounds}
 use Rattle.reference.proofs.FromSound.{in-order-canon}
@@ -66,7 +66,7 @@ module _ (es : List Event) (f : Each Fits es) where
   S = storeLeft called es emptyTable (replicate 32768 0)
 
   abbrev os : List Order
-  os = acceptedOf own es (answered called es emptyTable (replicate 32768 0))
+  os = acceptedOf es (answered called es emptyTable (replicate 32768 0))
 
   pub io-by-events : (write : Bool) (offset len : ℕ) → given (routed write T S offset len) (λ p. accepted (servedOf S p))
       ≡ given (requestLast offset len) (λ last. servedByRights write (rightGiven os READ offset none) (rightGiven os RW offset none))
@@ -144,7 +144,7 @@ module _ (m : Mode) (x : ℕ) where
   recalled-since (p ∷ before) o after r d c h = recalled-since before o after (afterAt p m x r) d c h
 
 pub write-after-recall : (es : List Event) → Each Fits es → (before : List Order) (o : Order) (after : List Order)
-    → acceptedOf own es (answered called es emptyTable (replicate 32768 0)) ≡ before ++ (o ∷ after) → o .deed ≡ recalls
+    → acceptedOf es (answered called es emptyTable (replicate 32768 0)) ≡ before ++ (o ∷ after) → o .deed ≡ recalls
     → (x : ℕ) → covers o RW x ≡ true → Each (λ o. grantsByte RW x o ≡ false) after → (offset len : ℕ) (p : Piece)
     → routed true (keptLeft called es emptyTable (replicate 32768 0)) (storeLeft called es emptyTable (replicate 32768 0)) offset len ≡ accepted p
     → offset ≤ x → x < offset + p .length → ⊥

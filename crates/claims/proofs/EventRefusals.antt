@@ -20,7 +20,7 @@ use Rattle.table.specs.Edits.{tableEdited}
 use Rattle.store.specs.Store.{Body}
 use Rattle.slots.specs.declared.home.Home.{Home}
 use Rattle.slots.specs.declared.home.Home.the-variants.{Old, New, Nowhere}
-use Rattle.reference.specs.Model.{Deed, returns, recalls, Event, Grant, Return, Recall, Revoke, Model, Order, act, answerTo, answers, grantOrder, meets, modelAfter, own, rangeOrder, refuse, start, stops21, stops22, stops24, stops25, tooMany, verdict}
+use Rattle.reference.specs.Model.{Deed, returns, recalls, Event, Grant, Return, Recall, Revoke, Model, Order, act, answerTo, answers, byOwn, grantOrder, meets, modelAfter, own, rangeOrder, refuse, start, stops21, stops22, stops24, stops25, tooMany, verdict}
 use Rattle.reference.specs.Sound.{sound}
 use Rattle.reference.specs.Claim.{CallResult, Fits, answered}
 use Rattle.reference.specs.AnyTable.{EndsBy}
@@ -195,7 +195,7 @@ module _ (N : ℕ) where
       go (accepted o) p = not-listed (0 ∷ 21 ∷ 22 ∷ 25 ∷ 24 ∷ 23 ∷ []) (verdict N o M) 20 (verdict-listed o M .listed) refl
       go (refused n) p = not-listed ownNumbers n 20 (own-refusals e .refusal n p) refl
 
-  answers-not-20 : (es : List Event) (M : Model) → Each (λ n. n ≡ 20 → ⊥) (answers N own es M)
+  answers-not-20 : (es : List Event) (M : Model) → Each (λ n. n ≡ 20 → ⊥) (answers N (byOwn N) es M)
   unfolding answers
   answers-not-20 [] M = tt
   answers-not-20 (e ∷ es) M = (answer-not-20 e M, answers-not-20 es (modelAfter N (own e) M))

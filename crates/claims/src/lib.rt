@@ -43,7 +43,7 @@ ghost use Rattle.reference.specs.Cases as cases;
 ghost use Rattle.reference.specs.Cases.{bodyOf, grantBytes};
 ghost use Rattle.reference.specs.StandIns.{changesNothing, firstOnly, refusesAll};
 ghost use Rattle.reference.specs.Sound.{isAccepted, sound};
-ghost use Rattle.reference.specs.Model.{Event, Grant, Order, Recall, Return, Revoke, covers, granted, none, own, recalls, run, start, tableOf};
+ghost use Rattle.reference.specs.Model.{Event, Grant, Order, Recall, Return, Revoke, byOwn, covers, granted, none, recalls, run, start, tableOf};
 ghost use Rattle.events.specs.Events.{called};
 ghost use Rattle.examples.specs.Examples.{Holds, examples};
 ghost use Rattle.record.specs.Records.{recordOf, tableIn};
@@ -150,9 +150,9 @@ pub fn starts_are_servers()
 // Demand 3, undivided, of the calls that `events::apply` is proved to be (its `ensures`, in events/src/stages.rt): after every list of events from the
 // empty table and the zeroed store their answers, table and store are those of the reference model, which the scope paper calls the ledger
 // (reference/specs/Model.antt). `Agreed` in reference/specs/Claim.antt has each sentence as a field or two. All that these calls keep of a file is its
-// table, at first the empty one, and they read an event as `own` does.
+// table, at first the empty one; the model keeps rights and slots and nothing else (`byOwn`).
 pub fn demand_3()
-    ensures { λ r. ⌜ Demand3 (λ t. t) emptyTable own called ⌝ }
+    ensures { λ r. ⌜ Demand3 (λ t. t) emptyTable (byOwn lastByte) called ⌝ }
 {}
 
 // Demand 3 and where an I/O goes, joined: after every list of events an I/O is served exactly as the rights say that the accepted events give its first
@@ -163,8 +163,8 @@ pub fn io_goes_by_the_rights_that_events_give()
         → given (routed write (keptLeft called es emptyTable (replicate 32768 0)) (storeLeft called es emptyTable (replicate 32768 0)) offset len)
         (λ p. accepted (servedOf (storeLeft called es emptyTable (replicate 32768 0)) p))
         ≡ given (requestLast offset len) (λ last. servedByRights write
-        (rightGiven (acceptedOf own es (answered called es emptyTable (replicate 32768 0))) READ offset none)
-        (rightGiven (acceptedOf own es (answered called es emptyTable (replicate 32768 0))) RW offset none))) ⌝ }
+        (rightGiven (acceptedOf es (answered called es emptyTable (replicate 32768 0))) READ offset none)
+        (rightGiven (acceptedOf es (answered called es emptyTable (replicate 32768 0))) RW offset none))) ⌝ }
 {}
 
 // And not of the first byte alone: each byte of an answered piece is granted by the accepted events, in the iomode and under the body of the piece; for a
@@ -174,7 +174,7 @@ pub fn each_byte_of_a_piece_is_granted()
         → routed write (keptLeft called es emptyTable (replicate 32768 0)) (storeLeft called es emptyTable (replicate 32768 0)) offset len ≡ accepted p
         → (m : Mode) × (p .iomode ≡ iomodeFor m) × (write ≡ true → m ≡ RW)
         × ((x : ℕ) → offset ≤ x → x < offset + p .length
-        → rightGiven (acceptedOf own es (answered called es emptyTable (replicate 32768 0))) m x none
+        → rightGiven (acceptedOf es (answered called es emptyTable (replicate 32768 0))) m x none
         ≡ granted (bodyIn (slotAt (storeLeft called es emptyTable (replicate 32768 0)) (p .slot .0))))) ⌝ }
 {}
 
@@ -182,7 +182,7 @@ pub fn each_byte_of_a_piece_is_granted()
 // that covers it there comes after, that byte is in no piece that is answered to a write.
 pub fn no_write_after_a_recall()
     ensures { λ r. ⌜ ((es : List Event) → Each Fits es → (before : List Order) (o : Order) (after : List Order)
-        → acceptedOf own es (answered called es emptyTable (replicate 32768 0)) ≡ before ++ (o ∷ after) → o .deed ≡ recalls
+        → acceptedOf es (answered called es emptyTable (replicate 32768 0)) ≡ before ++ (o ∷ after) → o .deed ≡ recalls
         → (x : ℕ) → covers o RW x ≡ true → Each (λ o. grantsByte RW x o ≡ false) after → (offset len : ℕ) (p : Piece)
         → routed true (keptLeft called es emptyTable (replicate 32768 0)) (storeLeft called es emptyTable (replicate 32768 0)) offset len ≡ accepted p
         → offset ≤ x → x < offset + p .length → ⊥) ⌝ }
@@ -191,9 +191,10 @@ pub fn no_write_after_a_recall()
 // Demand 3 of the functions that C links: over every list of calls, each handed the record and the store that the last one left. What they keep is a
 // record, at first the empty table's; and the record left is that of the model's table.
 pub fn demand_3_of_exported_functions()
-    ensures { λ r. ⌜ Demand3 tableOfRecord emptyRecord own calledOn
+    ensures { λ r. ⌜ Demand3 tableOfRecord emptyRecord (byOwn lastByte) calledOn
         × ((es : List Event) → Each Fits es
-        → keptLeft calledOn es emptyRecord (replicate 32768 0) ≡ recordOf (tableOf lastByte (run lastByte own es start))) ⌝ }
+        → keptLeft calledOn es emptyRecord (replicate 32768 0)
+        ≡ recordOf (tableOf lastByte (run (byOwn lastByte) es start))) ⌝ }
 {}
 
 // ==== What follows
@@ -295,7 +296,7 @@ pub fn mirrors_are_named_by_efficiency()
 // they show: its answer is the model's, and it leaves the table and the store of the model after the event.
 pub fn events_on_any_table()
     ensures { λ r. ⌜ ((e : Event) (t : Table) (store : List ℕ) → Fits e → Typed lastByte t store → sound t store ≡ true
-        → called e t store ≡ leftBy (tableOf lastByte) (own e) (modelOf t store)) ⌝ }
+        → called e t store ≡ leftBy (byOwn lastByte) (tableOf lastByte) e (modelOf t store)) ⌝ }
 {}
 
 // Soundness is: being the table and the store of some model, one that keeps the invariant of every model after a list of events.
@@ -308,9 +309,10 @@ pub fn sound_is_of_a_model()
 // obey any others while nothing is held and then answer as any others do and change nothing.
 pub fn stand_ins_fall()
     ensures { λ r. ⌜ ((number : Event → Table → List ℕ → ℕ) → ((e : Event) (t : Table) (store : List ℕ) → number e t store ≡ 0 → ⊥)
-        → Demand3 (λ t. t) emptyTable own (refusesAll number) → ⊥)
-        × ((call : Calls Table) → Demand3 (λ t. t) emptyTable own (changesNothing call) → ⊥)
-        × ((call later : Calls Table) → Demand3 (λ t. t) emptyTable own (firstOnly (λ t. t) call later) → ⊥) ⌝ }
+        → Demand3 (λ t. t) emptyTable (byOwn lastByte) (refusesAll number) → ⊥)
+        × ((call : Calls Table) → Demand3 (λ t. t) emptyTable (byOwn lastByte) (changesNothing call) → ⊥)
+        × ((call later : Calls Table)
+        → Demand3 (λ t. t) emptyTable (byOwn lastByte) (firstOnly (λ t. t) call later) → ⊥) ⌝ }
 {}
 
 // After every list of events table and store are sound.

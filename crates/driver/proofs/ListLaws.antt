@@ -11,10 +11,10 @@ use Rattle.segments.specs.declared.Table.{Table}
 use Rattle.record.specs.Records.{recordOf}
 use Rattle.record.specs.declared.types.TableRecord.{TableRecord}
 use Rattle.record.proofs.RoundTrip.{table-back}
-use Rattle.reference.specs.Model.{Event, Model, own, run, start, tableOf}
+use Rattle.reference.specs.Model.{Event, Model, byOwn, run, start, tableOf}
 use Rattle.reference.specs.AnyTable.{leftBy}
 use Rattle.reference.specs.Claim.{Demand3, Fits, keptLeft}
-use Rattle.reference.proofs.OwnLaws.{own-reads}
+use Rattle.reference.proofs.Laws.{own-lawful}
 use Rattle.reference.proofs.FromStep.{demand-3, kept-left, start-table}
 use Rattle.events.specs.Events.{called}
 use Rattle.agreement.proofs.Demand.{step-met}
@@ -43,14 +43,14 @@ table-of-record t = rw (table-back t)
 abbrev keep : Model → TableRecord
 keep M = recordOf (tableOf lastByte M)
 
-pub records-meet-demand-3 : Demand3 tableOfRecord emptyRecord own calledOn
+pub records-meet-demand-3 : Demand3 tableOfRecord emptyRecord (byOwn lastByte) calledOn
 unfolding leftBy
 records-meet-demand-3 =
-    demand-3 tableOfRecord emptyRecord own-reads calledOn keep (λ M. table-of-record (tableOf lastByte M)) (ap recordOf (start-table lastByte))
-    (λ e M f v. on-record e _ _ ∙ ap recorded (step-met e M f v))
+    demand-3 tableOfRecord emptyRecord own-lawful calledOn keep (λ M. table-of-record (tableOf lastByte M)) (ap recordOf (start-table lastByte))
+    (λ e M f v h. on-record e _ _ ∙ ap recorded (step-met e M f v))
 
-pub record-left : (es : List Event) → Each Fits es → keptLeft calledOn es emptyRecord (replicate 32768 0) ≡ keep (run lastByte own es start)
+pub record-left : (es : List Event) → Each Fits es → keptLeft calledOn es emptyRecord (replicate 32768 0) ≡ keep (run (byOwn lastByte) es start)
 unfolding leftBy
 record-left =
-    kept-left tableOfRecord emptyRecord own-reads calledOn keep (λ M. table-of-record (tableOf lastByte M)) (ap recordOf (start-table lastByte))
-    (λ e M f v. on-record e _ _ ∙ ap recorded (step-met e M f v))
+    kept-left tableOfRecord emptyRecord own-lawful calledOn keep (λ M. table-of-record (tableOf lastByte M)) (ap recordOf (start-table lastByte))
+    (λ e M f v h. on-record e _ _ ∙ ap recorded (step-met e M f v))

@@ -18,16 +18,16 @@ use Rattle.server.specs.Servers.{handlesAt, headAt, serverAt}
 use Rattle.layout.specs.Layouts.{frontAt, layoutAt, layoutBody, mirrorsAt, tailAt, unitFits}
 use Rattle.layout4.specs.Layout4s.{frameAt, layout4, layout4At, rangeAt}
 use Rattle.segments.specs.Segments.{READ, RW, anyBelow, inFront, scan, segmentsOf, withByte}
-use Rattle.reference.specs.Model.{act, afterAt, answerTo, answers, anyByte, covers, grantOrder, ifNamed, inLowest, inSlots, meets, modelAfter, noneEmpty, own, rangeOrder, run, segmentsIn, slotOf, start, tooMany, verdict}
+use Rattle.reference.specs.Model.{act, afterAt, answerTo, answers, anyByte, byOwn, covers, grantOrder, ifNamed, inLowest, inSlots, meets, modelAfter, noneEmpty, own, rangeOrder, run, segmentsIn, slotOf, start, tooMany, verdict}
 use Rattle.reference.specs.Cases.{Case, Holds, bodyOf, cases, grantBytes, servers}
 use Rattle.reference.proofs.ShortFiles.{allStay, example-longer, stays, staysIn}
 
 -- what a case says of a file of the bytes 0 to N
 abbrev pub HoldsOn : ℕ → Case → Type 0
 HoldsOn N c =
-    (answers N own (c .events) start ≡ c .numbers)
-    × (segmentsIn N (run N own (c .events) start) READ ≡ c .read)
-    × (segmentsIn N (run N own (c .events) start) RW ≡ c .rw)
+    (answers N (byOwn N) (c .events) start ≡ c .numbers)
+    × (segmentsIn N (run (byOwn N) (c .events) start) READ ≡ c .read)
+    × (segmentsIn N (run (byOwn N) (c .events) start) RW ≡ c .rw)
 
 -- whether no grant of a case goes past byte N
 abbrev pub staysBelow : ℕ → Case → Bool

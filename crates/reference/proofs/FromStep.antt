@@ -1,6 +1,7 @@
 -- Demand 3 follows where each call does what the model does.
 use Prim.Native.Nat.{ℕ, zero, suc, _+_, _*_, _≤_}
 use mathlib.Core.Path.{_≡_, refl, sym, ap, ap₂, _∙_}
+use mathlib.Core.Logic.{⊎-elim}
 use mathlib.Core.Bool.{false}
 use mathlib.Core.List.{List, [], _∷_}
 use native.Mathlib.Omega.{arith}
@@ -17,16 +18,16 @@ use Rattle.segments.specs.Segments.{Mode, emptyTable, listIn, rightAt}
 use Rattle.segments.proofs.Canon.{Below, Canon, at-in, at-past, canon-under}
 use Rattle.segments.proofs.ScanLaws.{segments-below, segments-past}
 use Rattle.store.specs.Store.{Slot, empty, slotBytes, storeOf}
-use Rattle.reference.specs.Model.{none, Event, Model, Order, act, afterAt, answerTo, answers, ifAccepted, modelAfter, run, segmentsIn, start, tableOf, verdict, withSlot}
+use Rattle.reference.specs.Model.{none, Event, Model, Order, Reference, act, afterAt, answerTo, answers, ifAccepted, modelAfter, own, run, segmentsIn, start, tableOf, verdict, withSlot}
 use Rattle.reference.specs.Sound.{slotsIn}
 use Rattle.reference.specs.Claim.{Agreed, Calls, Confined, Demand3, EachConfined, Fits, Ordered, Showing, acceptedOf, answered, inReach, keptLeft, rightGiven, rightIn, storeLeft, withBody}
-use Rattle.reference.proofs.Laws.{run-right}
+use Rattle.reference.proofs.Laws.{Lawful, run-right}
 use Rattle.reference.proofs.Bodies.{fewest-showing}
 use Rattle.reference.specs.AnyTable.{Invariant, leftBy}
 use Rattle.reference.proofs.Inv.{GoodOrder, after-keeps, no-segments, start-keeps}
 use Rattle.reference.proofs.Decode.{list-in, right-back, shown, slots-back, with-back}
 use Rattle.reference.proofs.SoundLaws.{model-canon}
-use Rattle.reference.proofs.OwnLaws.{Reads}
+use Rattle.reference.proofs.OwnLaws.{own-small}
 
 -- ---- the start
 
@@ -44,18 +45,7 @@ empty-store (suc n) =
 pub start-store : storeOf (replicate 8 empty) ≡ replicate 32768 0
 start-store = empty-store 8
 
--- ---- events keep the invariant
-
-module _ {reads : Event → Answer Order} (good : Reads reads) (N : ℕ) where
-  pub event-keeps : (e : Event) (M : Model) → Fits e → Invariant N M → Invariant N (modelAfter N (reads e) M)
-  event-keeps e M f v = after-keeps N (reads e) M (good .small e f) v
-
-  pub run-keeps : (es : List Event) (M : Model) → Each Fits es → Invariant N M → Invariant N (run N reads es M)
-  unfolding run
-  run-keeps [] M f v = v
-  run-keeps (e ∷ es) M f v = run-keeps es (modelAfter N (reads e) M) (f .1) (event-keeps e M (f .0) v)
-
--- ---- an event changes no right outside its reach, and a refused one changes nothing
+-- ---- an event changes no right outside its reach
 
 outside : (N : ℕ) (a : Answer Order) (M : Model) (m : Mode) (x : ℕ) → inReach a m x ≡ false → modelAfter N a M .right m x ≡ M .right m x
 unfolding modelAfter act afterAt pick
@@ -66,31 +56,57 @@ outside N (accepted o) M m x h = go (verdict N o M)
     go zero = rw h
     go (suc n) = refl
 
-pub refused-still : (N : ℕ) (a : Answer Order) (M : Model) → (answerTo N a M ≡ 0 → ⊥) → modelAfter N a M ≡ M
-unfolding modelAfter answerTo
-refused-still N (refused n) M h = refl
-refused-still N (accepted o) M h = go (verdict N o M) h
-  where
-    go : (n : ℕ) → (n ≡ 0 → ⊥) → ifAccepted n (act N o M) M ≡ M
-    go zero k = absurd (k refl)
-    go (suc n) k = refl
+-- ---- a reference model
 
--- keep: what is kept of a model, in which its table stands
-confined-step : {K : Type 0} (table : K → Table) (keep : Model → K) → ((M : Model) → table (keep M) ≡ tableOf lastByte M)
-    → (a : Answer Order) (M : Model) → GoodOrder a → Invariant lastByte M
-    → Confined table a (keep M) (storeOf (M .slots)) (leftBy keep a M)
-unfolding leftBy
-confined-step table keep shows a M g v =
-    let M' = modelAfter lastByte a M in
-    record {
-      elsewhere = λ n m x h k.
-          rw (shows M', shows M)
-          (right-back lastByte M' (after-keeps lastByte a M g v) m x h
-          ∙ (outside lastByte a M m x k ∙ sym (right-back lastByte M v m x h)));
-      unchanged = λ n.
-          let s : M' ≡ M = refused-still lastByte a M n in
-          (ap keep s, ap (λ (X : Model). storeOf (X .slots)) s);
-    }
+module _ {L : Type 0} {ref : Reference L} {Holds : L → Type 0} (good : Lawful ref Holds) where
+  order-small : (e : Event) (l : L) → Fits e → GoodOrder (ref .order e l)
+  order-small e l f = ⊎-elim (λ s. rw s (own-small e f)) (λ r. rw (r .1) tt) (good .own-order e l)
+
+  order-outside : (e : Event) (l : L) (M : Model) (m : Mode) (x : ℕ) → inReach (own e) m x ≡ false
+      → modelAfter lastByte (ref .order e l) M .right m x ≡ M .right m x
+  order-outside e l M m x h =
+      ⊎-elim (λ s. rw s (outside lastByte (own e) M m x h))
+      (λ r. rw (r .1) (outside lastByte (refused (suc (r .0))) M m x refl))
+      (good .own-order e l)
+
+  first-keeps : Invariant lastByte (ref .model (ref .first))
+  first-keeps = rw (good .at-first) (start-keeps lastByte)
+
+  first-store : storeOf (ref .model (ref .first) .slots) ≡ replicate 32768 0
+  first-store = rw (good .at-first) start-store
+
+  event-keeps : (e : Event) (l : L) → Fits e → Invariant lastByte (ref .model l) → Invariant lastByte (ref .model (ref .after e l))
+  event-keeps e l f v = rw (good .model-after e l) (after-keeps lastByte (ref .order e l) (ref .model l) (order-small e l f) v)
+
+  kept-after : (es : List Event) (l : L) → Each Fits es → Invariant lastByte (ref .model l) → Holds l
+      → Invariant lastByte (ref .model (run ref es l)) × Holds (run ref es l)
+  unfolding run
+  kept-after [] l f v h = (v, h)
+  kept-after (e ∷ es) l f v h =
+      kept-after es (ref .after e l) (f .1) (event-keeps e l (f .0) v) (good .holds-after e l (f .0) v h)
+
+  -- after every list of events
+  pub run-keeps : (es : List Event) → Each Fits es
+      → Invariant lastByte (ref .model (run ref es (ref .first))) × Holds (run ref es (ref .first))
+  run-keeps es f = kept-after es (ref .first) f first-keeps (good .holds-first)
+
+  -- keep: what is kept of what the model keeps, in which its table stands
+  confined-step : {K : Type 0} (table : K → Table) (keep : L → K) → ((l : L) → table (keep l) ≡ tableOf lastByte (ref .model l))
+      → (e : Event) (l : L) → Fits e → Invariant lastByte (ref .model l)
+      → Confined table e (keep l) (storeOf (ref .model l .slots)) (leftBy ref keep e l)
+  unfolding leftBy
+  confined-step table keep shows e l f v =
+      let l' = ref .after e l in
+      record {
+        elsewhere = λ n m x h k.
+            rw (shows l', shows l)
+            (right-back lastByte (ref .model l') (event-keeps e l f v) m x h
+            ∙ (ap (λ (M : Model). M .right m x) (good .model-after e l)
+            ∙ (order-outside e l (ref .model l) m x k ∙ sym (right-back lastByte (ref .model l) v m x h))));
+        unchanged = λ n.
+            let s : l' ≡ l = good .refused-keeps e l n in
+            (ap keep s, ap (λ (X : L). storeOf (ref .model X .slots)) s);
+      }
 
 -- ---- the model's lists show its rights
 
@@ -139,53 +155,58 @@ module _ (M : Model) (v : Invariant lastByte M) where
 
 -- ---- a list of calls
 
--- keep: what is kept of a model, in which its table stands
-module _ {K : Type 0} (table : K → Table) (first : K) {reads : Event → Answer Order} (good : Reads reads) (call : Calls K) (keep : Model → K)
-    (shows : (M : Model) → table (keep M) ≡ tableOf lastByte M)
-    (starts : keep start ≡ first)
-    (steps : (e : Event) (M : Model) → Fits e → Invariant lastByte M → call e (keep M) (storeOf (M .slots)) ≡ leftBy keep (reads e) M)
+-- keep: what is kept of what the model keeps, in which its table stands
+module _ {K L : Type 0} (table : K → Table) (first : K) {ref : Reference L} {Holds : L → Type 0} (good : Lawful ref Holds) (call : Calls K)
+    (keep : L → K)
+    (shows : (l : L) → table (keep l) ≡ tableOf lastByte (ref .model l))
+    (starts : keep (ref .first) ≡ first)
+    (steps : (e : Event) (l : L) → Fits e → Invariant lastByte (ref .model l) → Holds l
+    → call e (keep l) (storeOf (ref .model l .slots)) ≡ leftBy ref keep e l)
   where
     -- what the calls leave is the model's
-    abbrev Follows : List Event → K → List ℕ → Model → Type 0
-    Follows es k store M =
-        (answered call es k store ≡ answers lastByte reads es M)
-        × (keptLeft call es k store ≡ keep (run lastByte reads es M))
-        × (storeLeft call es k store ≡ storeOf (run lastByte reads es M .slots))
-        × EachConfined table reads call es k store
+    abbrev Follows : List Event → K → List ℕ → L → Type 0
+    Follows es k store l =
+        (answered call es k store ≡ answers lastByte ref es l)
+        × (keptLeft call es k store ≡ keep (run ref es l))
+        × (storeLeft call es k store ≡ storeOf (ref .model (run ref es l) .slots))
+        × EachConfined table call es k store
 
-    follows : (es : List Event) (M : Model) → Each Fits es → Invariant lastByte M → Follows es (keep M) (storeOf (M .slots)) M
+    follows : (es : List Event) (l : L) → Each Fits es → Invariant lastByte (ref .model l) → Holds l
+        → Follows es (keep l) (storeOf (ref .model l .slots)) l
     unfolding answered keptLeft storeLeft EachConfined answers run leftBy
-    follows [] M f v = (refl, refl, refl, tt)
-    follows (e ∷ es) M f v =
-        let M' = modelAfter lastByte (reads e) M in
-        let r = follows es M' (f .1) (event-keeps good lastByte e M (f .0) v) in
-        rw (steps e M (f .0) v) (
-          ap (λ (ns : List ℕ). answerTo lastByte (reads e) M ∷ ns) (r .0),
+    follows [] l f v h = (refl, refl, refl, tt)
+    follows (e ∷ es) l f v h =
+        let r = follows es (ref .after e l) (f .1) (event-keeps good e l (f .0) v) (good .holds-after e l (f .0) v h) in
+        rw (steps e l (f .0) v h) (
+          ap (λ (ns : List ℕ). answerTo lastByte (ref .order e l) (ref .model l) ∷ ns) (r .0),
           r .1,
           r .2,
-          (confined-step table keep shows (reads e) M (good .small e (f .0)) v, r .3),
+          (confined-step good table keep shows e l (f .0) v, r .3),
         )
 
-    from-start : (es : List Event) → Each Fits es → Follows es first (replicate 32768 0) start
-    from-start es f = rw (← starts, ← start-store) (follows es start f (start-keeps lastByte))
+    from-start : (es : List Event) → Each Fits es → Follows es first (replicate 32768 0) (ref .first)
+    from-start es f = rw (← starts, ← first-store good) (follows es (ref .first) f (first-keeps good) (good .holds-first))
 
     -- what is kept after a list is what is kept of the model
-    pub kept-left : (es : List Event) → Each Fits es → keptLeft call es first (replicate 32768 0) ≡ keep (run lastByte reads es start)
+    pub kept-left : (es : List Event) → Each Fits es → keptLeft call es first (replicate 32768 0) ≡ keep (run ref es (ref .first))
     kept-left es f = from-start es f .1
 
     module _ (es : List Event) (f : Each Fits es) where
       abbrev M : Model
-      M = run lastByte reads es start
+      M = ref .model (run ref es (ref .first))
 
       kept : Invariant lastByte M
-      kept = run-keeps good lastByte es start f (start-keeps lastByte)
+      kept = run-keeps good es f .0
 
-      agreed : (got : List ℕ) (t : Table) (store : List ℕ) → got ≡ answers lastByte reads es start → t ≡ tableOf lastByte M → store ≡ storeOf (M .slots)
-          → EachConfined table reads call es first (replicate 32768 0)
-          → Agreed table first reads call es got t store M
+      agreed : (got : List ℕ) (t : Table) (store : List ℕ) → got ≡ answers lastByte ref es (ref .first) → t ≡ tableOf lastByte M
+          → store ≡ storeOf (M .slots)
+          → EachConfined table call es first (replicate 32768 0)
+          → Agreed table first ref call es got t store M
       agreed got t store g p q c =
-          let rights-given : (m : Mode) (x : ℕ) → M .right m x ≡ rightGiven (acceptedOf reads es got) m x none =
-          λ m x. run-right lastByte reads es start m x ∙ ap (λ (ns : List ℕ). rightGiven (acceptedOf reads es ns) m x none) (sym g) in
+          let rights-given : (m : Mode) (x : ℕ) → M .right m x ≡ rightGiven (acceptedOf es got) m x none =
+          λ m x.
+          run-right good es (ref .first) m x
+          ∙ ap₂ (λ (ns : List ℕ) (X : Model). rightGiven (acceptedOf es ns) m x (X .right m x)) (sym g) (good .at-first) in
           let back : slotsIn t store ≡ M .slots = ap₂ slotsIn p q ∙ slots-back lastByte M kept in
           let list : (m : Mode) → listIn t m ≡ segmentsIn lastByte M m = λ m. ap (λ (X : Table). listIn X m) p ∙ list-in lastByte M m in
           record {
@@ -202,7 +223,7 @@ module _ {K : Type 0} (table : K → Table) (first : K) {reads : Event → Answe
             same-store = q;
           }
 
-    pub demand-3 : Demand3 table first reads call
+    pub demand-3 : Demand3 table first ref call
     demand-3 es f =
         let w = from-start es f in
-        agreed es f _ _ _ (w .0) (ap table (w .1) ∙ shows (run lastByte reads es start)) (w .2) (w .3)
+        agreed es f _ _ _ (w .0) (ap table (w .1) ∙ shows (run ref es (ref .first))) (w .2) (w .3)

@@ -1,18 +1,54 @@
--- The model's right at a byte is the one that the accepted events give, taken in order.
+-- The laws of a reference model. By them its right at a byte is the one that the accepted events give, taken in order.
 use Prim.Native.Nat.{ℕ, zero, suc}
 use mathlib.Core.Path.{_≡_, refl, sym, ap, _∙_}
+use mathlib.Core.Logic.{_⊎_, inl, ⊎-elim}
 use mathlib.Core.List.{List, [], _∷_, _++_}
 use Rattle.base.specs.Answer.{Answer, accepted, refused}
+use Rattle.base.specs.Ranges.{lastByte}
 use Rattle.segments.specs.Segments.{Mode}
-use Rattle.reference.specs.Model.{ByteRight, Event, Model, Order, act, afterAt, answerTo, answers, ifAccepted, modelAfter, run, verdict}
-use Rattle.reference.specs.Claim.{acceptedOf, orderOf, rightGiven}
+use Rattle.reference.specs.Model.{ByteRight, Event, Model, Order, Reference, act, afterAt, answerTo, answers, byOwn, ifAccepted, modelAfter, own, run, start, verdict}
+use Rattle.reference.specs.Claim.{Fits, acceptedOf, orderOf, rightGiven}
+use Rattle.reference.specs.AnyTable.{Invariant}
+
+-- ---- what the laws of lists of events ask of a reference model
+
+-- Holds: what holds of what it keeps after every list, beside the invariant of rights and slots
+pub record Lawful {L : Type 0} (ref : Reference L) (Holds : L → Type 0) : Type 0 where
+  pub at-first : ref .model (ref .first) ≡ start
+  pub holds-first : Holds (ref .first)
+  -- an event's order is that of its own bytes and numbers, or the event is refused, with a number that is not 0
+  pub own-order : (e : Event) (l : L) → (ref .order e l ≡ own e) ⊎ ((n : ℕ) × (ref .order e l ≡ refused (suc n)))
+  pub model-after : (e : Event) (l : L) → ref .model (ref .after e l) ≡ modelAfter lastByte (ref .order e l) (ref .model l)
+  pub refused-keeps : (e : Event) (l : L) → (answerTo lastByte (ref .order e l) (ref .model l) ≡ 0 → ⊥) → ref .after e l ≡ l
+  pub holds-after : (e : Event) (l : L) → Fits e → Invariant lastByte (ref .model l) → Holds l → Holds (ref .after e l)
+
+pub refused-still : (N : ℕ) (a : Answer Order) (M : Model) → (answerTo N a M ≡ 0 → ⊥) → modelAfter N a M ≡ M
+unfolding modelAfter answerTo
+refused-still N (refused n) M h = refl
+refused-still N (accepted o) M h = go (verdict N o M) h
+  where
+    go : (n : ℕ) → (n ≡ 0 → ⊥) → ifAccepted n (act N o M) M ≡ M
+    go zero k = absurd (k refl)
+    go (suc n) k = refl
+
+pub own-lawful : Lawful (byOwn lastByte) (λ M. Unit {0})
+own-lawful = record {
+  at-first = refl;
+  holds-first = tt;
+  own-order = λ e M. inl refl;
+  model-after = λ e M. refl;
+  refused-keeps = λ e M h. refused-still lastByte (own e) M h;
+  holds-after = λ e M f v h. tt;
+}
+
+-- ---- rights
 
 given-append : (os ps : List Order) (m : Mode) (x : ℕ) (r : ByteRight) → rightGiven (os ++ ps) m x r ≡ rightGiven ps m x (rightGiven os m x r)
 unfolding rightGiven
 given-append [] ps m x r = refl
 given-append (o ∷ os) ps m x r = given-append os ps m x (afterAt o m x r)
 
--- one event
+-- an answer to an order
 pub right-after : (N : ℕ) (a : Answer Order) (M : Model) (m : Mode) (x : ℕ)
     → modelAfter N a M .right m x ≡ rightGiven (orderOf a (answerTo N a M)) m x (M .right m x)
 unfolding modelAfter answerTo orderOf rightGiven act
@@ -23,12 +59,37 @@ right-after N (accepted o) M m x = go (verdict N o M)
     go (suc n) = refl
 right-after N (refused n) M m x = refl
 
-pub run-right : (N : ℕ) (reads : Event → Answer Order) (es : List Event) (M : Model) (m : Mode) (x : ℕ)
-    → run N reads es M .right m x ≡ rightGiven (acceptedOf reads es (answers N reads es M)) m x (M .right m x)
-unfolding run answers acceptedOf rightGiven
-run-right N reads [] M m x = refl
-run-right N reads (e ∷ es) M m x =
-    let M' = modelAfter N (reads e) M in
-    run-right N reads es M' m x
-    ∙ (ap (rightGiven (acceptedOf reads es (answers N reads es M')) m x) (right-after N (reads e) M m x)
-    ∙ sym (given-append (orderOf (reads e) (answerTo N (reads e) M)) (acceptedOf reads es (answers N reads es M')) m x (M .right m x)))
+-- a refused event orders nothing
+nothing-ordered : (a : Answer Order) (n : ℕ) → orderOf a (suc n) ≡ []
+unfolding orderOf
+nothing-ordered (accepted o) n = refl
+nothing-ordered (refused k) n = refl
+
+module _ {L : Type 0} {ref : Reference L} {Holds : L → Type 0} (good : Lawful ref Holds) where
+  same-order : (e : Event) (l : L) (M : Model)
+      → orderOf (ref .order e l) (answerTo lastByte (ref .order e l) M) ≡ orderOf (own e) (answerTo lastByte (ref .order e l) M)
+  unfolding orderOf answerTo
+  same-order e l M =
+      ⊎-elim (λ s. ap (λ (a : Answer Order). orderOf a (answerTo lastByte (ref .order e l) M)) s)
+      (λ r. rw (r .1) (sym (nothing-ordered (own e) (r .0))))
+      (good .own-order e l)
+
+  -- one event
+  event-right : (e : Event) (l : L) (m : Mode) (x : ℕ)
+      → ref .model (ref .after e l) .right m x
+      ≡ rightGiven (orderOf (own e) (answerTo lastByte (ref .order e l) (ref .model l))) m x (ref .model l .right m x)
+  event-right e l m x =
+      let M = ref .model l in
+      ap (λ (X : Model). X .right m x) (good .model-after e l)
+      ∙ (right-after lastByte (ref .order e l) M m x ∙ ap (λ (os : List Order). rightGiven os m x (M .right m x)) (same-order e l M))
+
+  -- a list of events
+  pub run-right : (es : List Event) (l : L) (m : Mode) (x : ℕ)
+      → ref .model (run ref es l) .right m x ≡ rightGiven (acceptedOf es (answers lastByte ref es l)) m x (ref .model l .right m x)
+  unfolding run answers acceptedOf rightGiven
+  run-right [] l m x = refl
+  run-right (e ∷ es) l m x =
+      let os = acceptedOf es (answers lastByte ref es (ref .after e l)) in
+      run-right es (ref .after e l) m x
+      ∙ (ap (rightGiven os m x) (event-right e l m x)
+      ∙ sym (given-append (orderOf (own e) (answerTo lastByte (ref .order e l) (ref .model l))) os m x (ref .model l .right m x)))

@@ -196,12 +196,3 @@ own-range Revoke o h e =
     let el : lastByte ≡ o .last = ap (λ (x : Order). x .last) (same-answer e) in
     let ef : 0 ≡ o .first = ap (λ (x : Order). x .first) (same-answer e) in
     (omega arith, omega arith)
-
--- ---- what the laws of lists of events ask of a reading of events
-
-pub record Reads (reads : Event → Answer Order) : Type 0 where
-  pub small : (e : Event) → Fits e → GoodOrder (reads e)
-  pub range : (e : Event) (o : Order) → Fits e → reads e ≡ accepted o → (o .first ≤ o .last) × (o .last ≤ lastByte)
-
-pub own-reads : Reads own
-own-reads = record { small = own-small; range = own-range }

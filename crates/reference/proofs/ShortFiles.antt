@@ -20,7 +20,7 @@ use Rattle.segments.proofs.Fewest.{scan-only}
 use Rattle.segments.proofs.ScanLaws.{any-found, any-some, segments-below, segments-canon, segments-past, segments-show}
 use Rattle.segments.proofs.SegmentTests.{same-tests}
 use Rattle.store.specs.Store.{Slot, empty, holds}
-use Rattle.reference.specs.Model.{ByteRight, none, Deed, grants, returns, recalls, revokes, Event, Model, Order, act, afterAt, answerTo, answers, anyByte, covers, ifAccepted, ifNamed, isHeld, isUnder, meets, modelAfter, own, placed, rightAfter, run, segmentsIn, start, stops21, stops22, stops25, tooMany, verdict, withSlot}
+use Rattle.reference.specs.Model.{ByteRight, none, Deed, grants, returns, recalls, revokes, Event, Model, Order, act, afterAt, answerTo, answers, anyByte, byOwn, covers, ifAccepted, ifNamed, isHeld, isUnder, meets, modelAfter, own, placed, rightAfter, run, segmentsIn, start, stops21, stops22, stops25, tooMany, verdict, withSlot}
 
 -- no grant past byte N
 unfoldable pub staysIn : ℕ → Deed → ℕ → Bool
@@ -163,20 +163,21 @@ module _ (N L : ℕ) (longer : N ≤ L) where
 
   -- a list of events
   pub run-longer : (es : List Event) (M : Model) → allStay N es ≡ true → Quiet (M .right)
-      → (answers N own es M ≡ answers L own es M) × (run N own es M ≡ run L own es M) × Quiet (run N own es M .right)
+      → (answers N (byOwn N) es M ≡ answers L (byOwn L) es M) × (run (byOwn N) es M ≡ run (byOwn L) es M) × Quiet (run (byOwn N) es M .right)
   unfolding answers run allStay
   run-longer [] M s q = (refl, refl, q)
   run-longer (e ∷ es) M s q =
       let p = both (stays N (own e)) (allStay N es) s in
       let a = after-longer (own e) M (p .0) q in
       let r = run-longer es (modelAfter N (own e) M) (p .1) (a .1) in (
-        ap₂ {C = List ℕ} (λ n ns. n ∷ ns) (answer-longer (own e) M (p .0) q) (r .0 ∙ ap (answers L own es) (a .0)),
-        r .1 ∙ ap (run L own es) (a .0),
+        ap₂ {C = List ℕ} (λ n ns. n ∷ ns) (answer-longer (own e) M (p .0) q) (r .0 ∙ ap (answers L (byOwn L) es) (a .0)),
+        r .1 ∙ ap (run (byOwn L) es) (a .0),
         r .2,
       )
 
   pub example-longer : (es : List Event) → allStay N es ≡ true
-      → (answers N own es start ≡ answers L own es start) × ((m : Mode) → segmentsIn N (run N own es start) m ≡ segmentsIn L (run L own es start) m)
+      → (answers N (byOwn N) es start ≡ answers L (byOwn L) es start)
+      × ((m : Mode) → segmentsIn N (run (byOwn N) es start) m ≡ segmentsIn L (run (byOwn L) es start) m)
   example-longer es s =
       let r = run-longer es start s (λ m x h k. refl) in
-      (r .0, λ m. segments-alike (run N own es start) m (r .2) ∙ ap (λ (M : Model). segmentsIn L M m) (r .1))
+      (r .0, λ m. segments-alike (run (byOwn N) es start) m (r .2) ∙ ap (λ (M : Model). segmentsIn L M m) (r .1))

@@ -24,7 +24,7 @@ use Rattle.segments.proofs.Canon.{Below, Canon, at-in, at-none, granted-some}
 use Rattle.segments.proofs.Fewest.{scan-only}
 use Rattle.segments.proofs.ScanLaws.{any-none}
 use Rattle.store.specs.Store.{Body, Slot}
-use Rattle.reference.specs.Model.{ByteRight, none, granted, Model, Event, Revoke, Order, act, afterAt, answerTo, answers, anyByte, covers, grantOrder, grants, inSlots, meets, modelAfter, noneEmpty, own, revokes, run, segmentsIn, slotOf, start, stops21, stops22, tooMany, verdict, withSlot}
+use Rattle.reference.specs.Model.{ByteRight, none, granted, Model, Event, Revoke, Order, act, afterAt, answerTo, answers, anyByte, byOwn, covers, grantOrder, grants, inSlots, meets, modelAfter, noneEmpty, own, revokes, run, segmentsIn, slotOf, start, stops21, stops22, tooMany, verdict, withSlot}
 use Rattle.reference.specs.Claim.{Calls, Demand3, CallResult, Fits, acceptedOf, answered, keptLeft, orderOf, rightGiven, rightIn, storeLeft}
 use Rattle.reference.specs.Cases.{bodyOf, grantBytes, grantOf, grantedIn, servers}
 use Rattle.reference.specs.StandIns.{changesNothing, firstOnly, refusesAll}
@@ -108,11 +108,11 @@ whole-file-granted : answerTo lastByte (own wholeFile) start ≡ 0
 unfolding answerTo
 whole-file-granted = rw whole-file-read (every-byte-granted lastByte (bodyOf 0 1 0))
 
-whole-file-accepted : answers lastByte own (wholeFile ∷ []) start ≡ 0 ∷ []
+whole-file-accepted : answers lastByte (byOwn lastByte) (wholeFile ∷ []) start ≡ 0 ∷ []
 unfolding answers
 whole-file-accepted = ap (λ (n : ℕ). n ∷ []) whole-file-granted
 
-both-accepted : answers lastByte own (wholeFile ∷ Revoke ∷ []) start ≡ 0 ∷ 0 ∷ []
+both-accepted : answers lastByte (byOwn lastByte) (wholeFile ∷ Revoke ∷ []) start ≡ 0 ∷ 0 ∷ []
 unfolding answers answerTo own
 both-accepted = ap₂ (λ (n k : ℕ). n ∷ k ∷ []) whole-file-granted (revoke-accepted lastByte (modelAfter lastByte (own wholeFile) start))
 
@@ -140,11 +140,11 @@ whole-file-revoke-fits = (whole-file-fits .0, (tt, tt))
 
 -- ---- rights that the events give, and that a table shows
 
-granted-by-it : rightGiven (acceptedOf own (wholeFile ∷ []) (0 ∷ [])) RW 0 none ≡ granted (bodyOf 0 1 0)
+granted-by-it : rightGiven (acceptedOf (wholeFile ∷ []) (0 ∷ [])) RW 0 none ≡ granted (bodyOf 0 1 0)
 unfolding rightGiven acceptedOf orderOf afterAt covers pick
 granted-by-it = rw whole-file-read refl
 
-revoked-behind-it : rightGiven (acceptedOf own (wholeFile ∷ Revoke ∷ []) (0 ∷ 0 ∷ [])) RW 0 none ≡ none
+revoked-behind-it : rightGiven (acceptedOf (wholeFile ∷ Revoke ∷ []) (0 ∷ 0 ∷ [])) RW 0 none ≡ none
 unfolding rightGiven acceptedOf orderOf afterAt covers pick own
 revoked-behind-it = rw whole-file-read refl
 
@@ -159,33 +159,33 @@ granted-not-none b e = let z : _≡_ {A = ℕ} 0 1 = cc in omega arith
 
 module _ {K : Type 0} (table : K → Table) (first : K) where
   -- what meets demand 3 shows no right before any event
-  first-empty : (call : Calls K) → Demand3 table first own call → table first ≡ emptyTable
+  first-empty : (call : Calls K) → Demand3 table first (byOwn lastByte) call → table first ≡ emptyTable
   unfolding keptLeft run
   first-empty call d = d [] tt .same-table ∙ start-table lastByte
 
   -- and the granted one after the grant
-  right-shown : (call : Calls K) → Demand3 table first own call
+  right-shown : (call : Calls K) → Demand3 table first (byOwn lastByte) call
       → rightIn (table (keptLeft call (wholeFile ∷ []) first (replicate 32768 0))) (storeLeft call (wholeFile ∷ []) first (replicate 32768 0)) RW 0
       ≡ granted (bodyOf 0 1 0)
   right-shown call d =
       let a = d (wholeFile ∷ []) whole-file-fits in
       a .rights RW 0 (omega arith)
-      ∙ (ap (λ (ns : List ℕ). rightGiven (acceptedOf own (wholeFile ∷ []) ns) RW 0 none) (a .same-answers ∙ whole-file-accepted) ∙ granted-by-it)
+      ∙ (ap (λ (ns : List ℕ). rightGiven (acceptedOf (wholeFile ∷ []) ns) RW 0 none) (a .same-answers ∙ whole-file-accepted) ∙ granted-by-it)
 
   pub refuses-all-falls : (number : Event → K → List ℕ → ℕ) → ((e : Event) (k : K) (store : List ℕ) → number e k store ≡ 0 → ⊥)
-      → Demand3 table first own (refusesAll number) → ⊥
+      → Demand3 table first (byOwn lastByte) (refusesAll number) → ⊥
   unfolding answered
   refuses-all-falls number h d =
       h wholeFile first (replicate 32768 0) (ap (λ (ns : List ℕ). getD ns 0 0) (d (wholeFile ∷ []) whole-file-fits .same-answers ∙ whole-file-accepted))
 
-  pub changes-nothing-falls : (call : Calls K) → Demand3 table first own (changesNothing call) → ⊥
+  pub changes-nothing-falls : (call : Calls K) → Demand3 table first (byOwn lastByte) (changesNothing call) → ⊥
   unfolding keptLeft storeLeft emptyTable inPlaces
   changes-nothing-falls call d =
       granted-not-none (bodyOf 0 1 0)
       (sym (right-shown (changesNothing call) d)
       ∙ no-right-shown (table first) (replicate 32768 0) 0 (ap (λ (t : Table). t .rw .count) (first-empty (changesNothing call) d)))
 
-  module _ (call later : Calls K) (d : Demand3 table first own (firstOnly table call later)) where
+  module _ (call later : Calls K) (d : Demand3 table first (byOwn lastByte) (firstOnly table call later)) where
     -- what the grant leaves
     abbrev after : CallResult K
     after = firstOnly table call later wholeFile first (replicate 32768 0)
@@ -205,10 +205,10 @@ module _ {K : Type 0} (table : K → Table) (first : K) where
     unfolding keptLeft storeLeft
     still-shows = ap (λ (l : CallResult K). rightIn (table (l .kept)) (l .store) RW 0) second-ignored ∙ grant-shows
 
-  pub first-only-falls : (call later : Calls K) → Demand3 table first own (firstOnly table call later) → ⊥
+  pub first-only-falls : (call later : Calls K) → Demand3 table first (byOwn lastByte) (firstOnly table call later) → ⊥
   first-only-falls call later d =
       let a = d (wholeFile ∷ Revoke ∷ []) whole-file-revoke-fits in
       granted-not-none (bodyOf 0 1 0)
       (sym (still-shows call later d)
       ∙ (a .rights RW 0 (omega arith)
-      ∙ (ap (λ (ns : List ℕ). rightGiven (acceptedOf own (wholeFile ∷ Revoke ∷ []) ns) RW 0 none) (a .same-answers ∙ both-accepted) ∙ revoked-behind-it)))
+      ∙ (ap (λ (ns : List ℕ). rightGiven (acceptedOf (wholeFile ∷ Revoke ∷ []) ns) RW 0 none) (a .same-answers ∙ both-accepted) ∙ revoked-behind-it)))

@@ -4,7 +4,6 @@ use mathlib.Core.Path.{_≡_}
 use mathlib.Core.Bool.{true}
 use mathlib.Core.List.{List}
 use lib.ListN.{length, getD}
-use Rattle.base.specs.Answer.{Answer}
 use Rattle.base.specs.Lists.{Each}
 use Rattle.base.specs.Ranges.{lastByte}
 use Rattle.numbers.specs.Numbers.{AllBytes}
@@ -13,7 +12,7 @@ use Rattle.segments.specs.declared.Segment.{Segment}
 use Rattle.segments.specs.declared.Table.{Table}
 use Rattle.segments.specs.Segments.{Mode, listIn, segmentsFor}
 use Rattle.store.specs.Store.{Body, Slot, empty, holds, storeOf}
-use Rattle.reference.specs.Model.{ByteRight, none, granted, recalled, Model, Order, answerTo, anyByte, inSlots, isUnder, modelAfter, segmentsIn, tableOf}
+use Rattle.reference.specs.Model.{ByteRight, none, granted, recalled, Event, Model, Reference, answerTo, anyByte, inSlots, isUnder, segmentsIn, tableOf}
 use Rattle.reference.specs.Sound.{isAccepted, noTwoAlike, slotsIn}
 use Rattle.reference.specs.Claim.{CallResult, rightIn}
 
@@ -67,11 +66,11 @@ pub record OfModel (t : Table) (store : List ℕ) : Type 0 where
 
 -- ---- its step
 
--- the model's answer to an event, and what is kept of the model after it, with its store. a: the event, read; keep: what
--- is kept of a model, such as its table.
-unfoldable pub leftBy : {K : Type 0} → (Model → K) → Answer Order → Model → CallResult K
-leftBy keep a M = record {
-  answer = answerTo lastByte a M;
-  kept = keep (modelAfter lastByte a M);
-  store = storeOf (modelAfter lastByte a M .slots);
+-- a reference model's answer to an event, and what is kept of it afterwards, with its store. keep: what is kept of
+-- what the model keeps, such as its table.
+unfoldable pub leftBy : {K L : Type 0} → Reference L → (L → K) → Event → L → CallResult K
+leftBy ref keep e l = record {
+  answer = answerTo lastByte (ref .order e l) (ref .model l);
+  kept = keep (ref .after e l);
+  store = storeOf (ref .model (ref .after e l) .slots);
 }

@@ -10,7 +10,7 @@ use Rattle.segments.specs.declared.Right.the-variants as table
 use Rattle.segments.specs.declared.Segment.{Segment}
 use Rattle.segments.specs.Segments.{READ, RW}
 use Rattle.store.specs.Store.{Body}
-use Rattle.reference.specs.Model.{Event, Grant, Return, Recall, Revoke, answers, own, run, segmentsIn, start}
+use Rattle.reference.specs.Model.{Event, Grant, Return, Recall, Revoke, answers, byOwn, run, segmentsIn, start}
 
 -- so many data servers, each with one filehandle, in 56 bytes
 unfoldable pub servers : ℕ → List ℕ
@@ -46,9 +46,9 @@ pub record Case : Type 0 where
 
 abbrev pub Holds : Case → Type 0
 Holds c =
-    (answers lastByte own (c .events) start ≡ c .numbers)
-    × (segmentsIn lastByte (run lastByte own (c .events) start) READ ≡ c .read)
-    × (segmentsIn lastByte (run lastByte own (c .events) start) RW ≡ c .rw)
+    (answers lastByte (byOwn lastByte) (c .events) start ≡ c .numbers)
+    × (segmentsIn lastByte (run (byOwn lastByte) (c .events) start) READ ≡ c .read)
+    × (segmentsIn lastByte (run (byOwn lastByte) (c .events) start) RW ≡ c .rw)
 
 -- returns in RW of n single bytes, every other byte from x on
 abbrev pub returnsFrom : ℕ → ℕ → List Event

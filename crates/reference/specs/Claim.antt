@@ -1,5 +1,5 @@
--- Demand 3, stated of any calls on what is kept of a file and a body store. What is kept is of some type K, and a
--- table is read off it: it is a table, or holds one.
+-- Demand 3, stated of any calls on what is kept of a file and a body store, and of any reference model. What is kept
+-- is of some type K, and a table is read off it: it is a table, or holds one.
 use Prim.Native.Nat.{ℕ, suc, _≤_, _<_, _^_}
 use mathlib.Core.Path.{_≡_}
 use mathlib.Core.Bool.{Bool, false}
@@ -15,7 +15,7 @@ use Rattle.segments.specs.declared.Segment.{Segment}
 use Rattle.segments.specs.declared.Table.{Table}
 use Rattle.segments.specs.Segments.{Mode, listIn, rightAt}
 use Rattle.store.specs.Store.{Slot, empty, holds, storeOf, Body}
-use Rattle.reference.specs.Model.{ByteRight, none, granted, recalled, Model, start, Event, Grant, Return, Recall, Revoke, Order, covers, afterAt, ifAccepted, answers, run, tableOf}
+use Rattle.reference.specs.Model.{ByteRight, none, granted, recalled, Model, Event, Grant, Return, Recall, Revoke, Order, Reference, afterAt, answers, covers, ifAccepted, own, run, tableOf}
 use Rattle.reference.specs.Sound.{slotsIn}
 
 -- what a call gives: its answer (0 for accepted), what is kept of the file, and the store
@@ -59,11 +59,11 @@ unfoldable pub orderOf : Answer Order → ℕ → List Order
 orderOf (accepted o) answer = ifAccepted answer (o ∷ []) []
 orderOf (refused n) answer = []
 
--- the orders of the accepted events of a list
-unfoldable pub acceptedOf : (Event → Answer Order) → List Event → List ℕ → List Order
-acceptedOf reads [] ns = []
-acceptedOf reads (e ∷ es) [] = []
-acceptedOf reads (e ∷ es) (n ∷ ns) = orderOf (reads e) n ++ acceptedOf reads es ns
+-- the orders of the accepted events of a list, by their own bytes and numbers
+unfoldable pub acceptedOf : List Event → List ℕ → List Order
+acceptedOf [] ns = []
+acceptedOf (e ∷ es) [] = []
+acceptedOf (e ∷ es) (n ∷ ns) = orderOf (own e) n ++ acceptedOf es ns
 
 -- "the right that the accepted events covering that byte and iomode give, taken in order"
 unfoldable pub rightGiven : List Order → Mode → ℕ → ByteRight → ByteRight
@@ -103,40 +103,39 @@ module _ {K : Type 0} (call : Calls K) where
   storeLeft [] k store = store
   storeLeft (e ∷ es) k store = storeLeft es (call e k store .kept) (call e k store .store)
 
--- whether an event covers a byte and iomode
+-- whether an event covers a byte and iomode, by its own bytes and numbers
 abbrev pub inReach : Answer Order → Mode → ℕ → Bool
 inReach (accepted o) m x = covers o m x
 inReach (refused n) m x = false
 
 module _ {K : Type 0} (table : K → Table) where
-  -- "An accepted event changes no right outside its range and iomode; a refused one changes nothing." a: the event
-  -- as it was read
-  pub record Confined (a : Answer Order) (k : K) (store : List ℕ) (l : CallResult K) : Type 0 where
-    pub elsewhere : l .answer ≡ 0 → (m : Mode) (x : ℕ) → x ≤ lastByte → inReach a m x ≡ false
+  -- "An accepted event changes no right outside its range and iomode; a refused one changes nothing."
+  pub record Confined (e : Event) (k : K) (store : List ℕ) (l : CallResult K) : Type 0 where
+    pub elsewhere : l .answer ≡ 0 → (m : Mode) (x : ℕ) → x ≤ lastByte → inReach (own e) m x ≡ false
         → rightIn (table (l .kept)) (l .store) m x ≡ rightIn (table k) store m x
     pub unchanged : (l .answer ≡ 0 → ⊥) → (l .kept ≡ k) × (l .store ≡ store)
 
-  unfoldable pub EachConfined : (Event → Answer Order) → Calls K → List Event → K → List ℕ → Type 0
-  EachConfined reads call [] k store = Unit {0}
-  EachConfined reads call (e ∷ es) k store =
-      Confined (reads e) k store (call e k store)
-      × EachConfined reads call es (call e k store .kept) (call e k store .store)
+  unfoldable pub EachConfined : Calls K → List Event → K → List ℕ → Type 0
+  EachConfined call [] k store = Unit {0}
+  EachConfined call (e ∷ es) k store =
+      Confined e k store (call e k store)
+      × EachConfined call es (call e k store .kept) (call e k store .store)
 
--- table: the table in what is kept; first: what is kept before the first event, with an empty table in it (`same-table`
--- says so of the empty list); reads: how an event's own bytes and numbers are read. Of the calls on tables these are the
--- table itself, `emptyTable` and `own`.
-module _ {K : Type 0} (table : K → Table) (first : K) (reads : Event → Answer Order) (call : Calls K) where
-  -- What demand 3 says of one list of events. got: the calls' answers; t, store: what they leave; M: the reference
-  -- model after the list.
+-- table: the table in what is kept; first: what is kept before the first event, with an empty table in it
+-- (`same-table` says so of the empty list); ref: the reference model. Of the calls on tables these are the table
+-- itself, `emptyTable` and `byOwn lastByte`.
+module _ {K L : Type 0} (table : K → Table) (first : K) (ref : Reference L) (call : Calls K) where
+  -- What demand 3 says of one list of events. got: the calls' answers; t, store: what they leave; M: the rights and
+  -- slots of the reference model after the list.
   pub record Agreed (es : List Event) (got : List ℕ) (t : Table) (store : List ℕ) (M : Model) : Type 0 where
     -- "Each is accepted, or refused with its number, exactly when the scope paper's ledger does so on the same list."
-    pub same-answers : got ≡ answers lastByte reads es start
+    pub same-answers : got ≡ answers lastByte ref es (ref .first)
     -- "every byte of the file has, in each iomode, the right that the accepted events covering that byte and iomode give, taken in order"
-    pub rights : (m : Mode) (x : ℕ) → x ≤ lastByte → rightIn t store m x ≡ rightGiven (acceptedOf reads es got) m x none
+    pub rights : (m : Mode) (x : ℕ) → x ≤ lastByte → rightIn t store m x ≡ rightGiven (acceptedOf es got) m x none
     -- "and the ledger shows the same"
-    pub same-rights : (m : Mode) (x : ℕ) → x ≤ lastByte → M .right m x ≡ rightGiven (acceptedOf reads es got) m x none
+    pub same-rights : (m : Mode) (x : ℕ) → x ≤ lastByte → M .right m x ≡ rightGiven (acceptedOf es got) m x none
     -- "An accepted event changes no right outside its range and iomode; a refused one changes nothing."
-    pub confined : EachConfined table reads call es first (replicate 32768 0)
+    pub confined : EachConfined table call es first (replicate 32768 0)
     -- "The table kept is the one worked out afresh from those rights and the ledger's slots."
     pub same-table : t ≡ tableOf lastByte M
     -- and those are the slots that table and store show
@@ -157,4 +156,4 @@ module _ {K : Type 0} (table : K → Table) (first : K) (reads : Event → Answe
       (answered call es first (replicate 32768 0))
       (table (keptLeft call es first (replicate 32768 0)))
       (storeLeft call es first (replicate 32768 0))
-      (run lastByte reads es start)
+      (ref .model (run ref es (ref .first)))

@@ -235,7 +235,7 @@ module _ (N : ℕ) where
       (refuse 23 (tooMany (act o M))
       0))))
 
-  -- an event whose own bytes and numbers are refused gets their number
+  -- an event that is refused before rights and slots are asked, as by its own bytes and numbers, gets that number
   unfoldable pub answerTo : Answer Order → Model → ℕ
   answerTo (refused n) M = n
   answerTo (accepted o) M = verdict o M
@@ -245,16 +245,34 @@ module _ (N : ℕ) where
   modelAfter (refused n) M = M
   modelAfter (accepted o) M = ifAccepted (verdict o M) (act o M) M
 
-  -- a list of events: the answers, and the model after the last; reads: how an event's own bytes and numbers are read
-  module _ (reads : Event → Answer Order) where
-    unfoldable pub answers : List Event → Model → List ℕ
-    answers [] M = []
-    answers (e ∷ es) M = answerTo (reads e) M ∷ answers es (modelAfter (reads e) M)
-
-    unfoldable pub run : List Event → Model → Model
-    run [] M = M
-    run (e ∷ es) M = run es (modelAfter (reads e) M)
-
   -- "and the table's other places blank"
   unfoldable pub tableOf : Model → Table
   tableOf M = record { read = inPlaces (segmentsIn M READ); rw = inPlaces (segmentsIn M RW) }
+
+-- ---- lists of events
+
+-- A reference model as demand 3 takes it. What it keeps is of some type L: rights and slots, and maybe more, by which
+-- it may refuse an event.
+pub record Reference (L : Type 0) : Type 0 where
+  -- what is kept before the first event
+  pub first : L
+  -- the rights and slots in what is kept
+  pub model : L → Model
+  -- an event's order; or its refusal, by its own bytes and numbers or by what is kept beside rights and slots
+  pub order : Event → L → Answer Order
+  -- what is kept after an event
+  pub after : Event → L → L
+
+-- rights and slots and nothing else, "fed only the events' own bytes and numbers"
+abbrev pub byOwn : ℕ → Reference Model
+byOwn N = record { first = start; model = λ M. M; order = λ e M. own e; after = λ e M. modelAfter N (own e) M }
+
+-- the answers to a list of events: an order is judged by rights and slots
+unfoldable pub answers : {L : Type 0} → ℕ → Reference L → List Event → L → List ℕ
+answers N ref [] l = []
+answers N ref (e ∷ es) l = answerTo N (ref .order e l) (ref .model l) ∷ answers N ref es (ref .after e l)
+
+-- what is kept after the last event
+unfoldable pub run : {L : Type 0} → Reference L → List Event → L → L
+run ref [] l = l
+run ref (e ∷ es) l = run ref es (ref .after e l)
