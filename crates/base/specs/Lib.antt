@@ -1,4 +1,5 @@
 pub mod Answer
+pub mod Limits
 pub mod Lists
 pub mod Bits
 pub mod Refusals

@@ -1,5 +1,6 @@
 // What every layer shares: the refusals with their numbers, iomodes, the three kinds of number, and the two range rules.
 mod iomode;
+mod limits;
 mod range;
 mod refusal;
 
@@ -9,6 +10,30 @@ pub use iomode::grant_iomode;
 pub use iomode::iomode_number;
 pub use iomode::iomode_of;
 pub use iomode::why_iomode;
+pub use limits::DEVICE_ID_SIZE;
+pub use limits::ERROR_SIZE;
+pub use limits::LONGEST_ADDRESS;
+pub use limits::LONGEST_BODY;
+pub use limits::LONGEST_DEVICE_BODY;
+pub use limits::LONGEST_FILEHANDLE;
+pub use limits::LONGEST_NAME;
+pub use limits::LONGEST_NETID;
+pub use limits::MOST_ADDRESSES;
+pub use limits::MOST_ERRORS;
+pub use limits::MOST_ERRORS_IN_ALL;
+pub use limits::MOST_FILEHANDLES;
+pub use limits::MOST_MIRRORS;
+pub use limits::MOST_REPORTS;
+pub use limits::MOST_SEGMENTS;
+pub use limits::MOST_SERVERS;
+pub use limits::MOST_STARTS;
+pub use limits::MOST_VERSIONS;
+pub use limits::REPORT_HEAD_SIZE;
+pub use limits::SLOT_COUNT;
+pub use limits::SLOT_HEAD_SIZE;
+pub use limits::SLOT_SIZE;
+pub use limits::STATEID_SIZE;
+pub use limits::STORE_SIZE;
 pub use range::LARGEST_SUM;
 pub use range::LAST_BYTE;
 pub use range::Last;
