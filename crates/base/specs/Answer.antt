@@ -15,3 +15,8 @@ given (refused n) next = refused n
 unfoldable pub pick : {A : Type 0} → Bool → A → A → A
 pick true a b = a
 pick false a b = b
+
+-- the number in a refusal; of an accepted answer, the first of the table
+abbrev pub refusalIn : {A : Type 0} → Answer A → ℕ
+refusalIn (accepted a) = 1
+refusalIn (refused n) = n

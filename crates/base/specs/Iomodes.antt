@@ -2,9 +2,7 @@
 use Prim.Native.Nat.{ℕ}
 use lib.Dec.{eqb}
 use Rattle.base.specs.Answer.{Answer, accepted, refused, pick}
-use Rattle.base.specs.Refusals.{numberOf}
-use Rattle.base.specs.declared.refusal.Refusal.{Refusal}
-use Rattle.base.specs.declared.refusal.Refusal.the-variants.{IomodeNotAllowed}
+use Rattle.base.specs.Refusals.{faultNumber}
 use Rattle.base.specs.declared.iomode.Iomode.{Iomode}
 use Rattle.base.specs.declared.iomode.Iomode.the-variants.{Read, ReadWrite, Any}
 use Rattle.base.specs.declared.iomode.ReadIomode.{ReadIomode}
@@ -27,9 +25,4 @@ grantIomodeOf n = pick (eqb n 1) (accepted Read) (pick (eqb n 2) (accepted ReadW
 -- what the code's answer stands for
 abbrev pub answerOfIomode : ReadIomode → Answer Iomode
 answerOfIomode (Value m) = accepted m
-answerOfIomode (Refused e) = refused (numberOf e)
-
--- the refusal in an answer; of one with an iomode, the iomode's own
-abbrev pub whyIomode : ReadIomode → Refusal
-whyIomode (Value m) = IomodeNotAllowed
-whyIomode (Refused e) = e
+answerOfIomode (Refused e) = refused (faultNumber e)

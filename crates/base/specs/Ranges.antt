@@ -2,9 +2,7 @@
 use Prim.Native.Nat.{ℕ, _+_, _-_, _^_}
 use lib.Dec.{leb, eqb}
 use Rattle.base.specs.Answer.{Answer, accepted, refused, pick}
-use Rattle.base.specs.Refusals.{numberOf}
-use Rattle.base.specs.declared.refusal.Refusal.{Refusal}
-use Rattle.base.specs.declared.refusal.Refusal.the-variants.{RangeInvalid}
+use Rattle.base.specs.Refusals.{faultNumber}
 use Rattle.base.specs.declared.range.Last.{Last}
 use Rattle.base.specs.declared.range.Last.the-variants.{At, Refused}
 
@@ -33,9 +31,4 @@ rangeLast offset len = pick (eqb len toTheEnd) (accepted lastByte) (requestLast 
 -- what the code's answer stands for
 abbrev pub answerOfLast : Last → Answer ℕ
 answerOfLast (At last) = accepted last
-answerOfLast (Refused e) = refused (numberOf e)
-
--- the refusal in an answer; of one with a last byte, the range's own
-abbrev pub whyLast : Last → Refusal
-whyLast (At last) = RangeInvalid
-whyLast (Refused e) = e
+answerOfLast (Refused e) = refused (faultNumber e)

@@ -1,7 +1,9 @@
 // Iomodes by their wire numbers.
-use crate::refusal::Refusal;
+use crate::refusal::Fault;
 ghost use mathlib.Core.Path.{_≡_};
-ghost use Rattle.base.specs.Iomodes.{answerOfIomode, grantIomodeOf, iomodeOf, numberOfIomode, whyIomode};
+ghost use Rattle.base.specs.Iomodes.{answerOfIomode, grantIomodeOf, iomodeOf, numberOfIomode};
+ghost use Rattle.base.specs.Answer.{refusalIn};
+ghost use Rattle.base.specs.Refusals.{faultNumber};
 
 pub enum Iomode {
     Read,
@@ -11,7 +13,7 @@ pub enum Iomode {
 
 pub enum ReadIomode {
     Value(Iomode),
-    Refused(Refusal),
+    Refused(Fault),
 }
 
 // What a return and a recall may name.
@@ -22,7 +24,7 @@ pub fn iomode_of(n: u32) -> ReadIomode
         1 => ReadIomode::Value(Iomode::Read),
         2 => ReadIomode::Value(Iomode::ReadWrite),
         3 => ReadIomode::Value(Iomode::Any),
-        _ => ReadIomode::Refused(Refusal::IomodeNotAllowed),
+        _ => ReadIomode::Refused(Fault::IomodeNotAllowed),
     }
 }
 
@@ -31,17 +33,17 @@ pub fn grant_iomode(n: u32) -> ReadIomode
     ensures { λ r. ⌜ answerOfIomode r ≡ grantIomodeOf n ⌝ }
 {
     if n == 3 {
-        return ReadIomode::Refused(Refusal::IomodeNotAllowed);
+        return ReadIomode::Refused(Fault::IomodeNotAllowed);
     }
     iomode_of(n)
 }
 
-pub fn why_iomode(r: ReadIomode) -> Refusal
-    ensures { λ e. ⌜ e ≡ whyIomode r ⌝ }
+pub fn why_iomode(r: ReadIomode) -> Fault
+    ensures { λ e. ⌜ faultNumber e ≡ refusalIn (answerOfIomode r) ⌝ }
 {
     match r {
         ReadIomode::Refused(e) => e,
-        ReadIomode::Value(_) => Refusal::IomodeNotAllowed,
+        ReadIomode::Value(_) => Fault::BytesRunOut,
     }
 }
 

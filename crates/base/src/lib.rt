@@ -41,7 +41,9 @@ pub use range::TO_THE_END;
 pub use range::range_last;
 pub use range::request_last;
 pub use range::why_last;
+pub use refusal::Fault;
 pub use refusal::Refusal;
+pub use refusal::fault_number;
 pub use refusal::number;
 
 // A mirror's place among the mirrors of a layout.

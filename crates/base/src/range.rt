@@ -1,12 +1,14 @@
 // The range rule and the I/O request rule, at full 64 bits: no sum is formed that could wrap.
-use crate::refusal::Refusal;
+use crate::refusal::Fault;
 ghost use mathlib.Core.Path.{_≡_};
-ghost use Rattle.base.specs.Ranges.{answerOfLast, rangeLast, requestLast, whyLast};
+ghost use Rattle.base.specs.Ranges.{answerOfLast, rangeLast, requestLast};
+ghost use Rattle.base.specs.Answer.{refusalIn};
+ghost use Rattle.base.specs.Refusals.{faultNumber};
 
 // The last byte of a range or an I/O request.
 pub enum Last {
     At(u64),
-    Refused(Refusal),
+    Refused(Fault),
 }
 
 // The last byte that a file offset can name.
@@ -31,19 +33,19 @@ pub fn request_last(offset: u64, len: u64) -> Last
     ensures { λ r. ⌜ answerOfLast r ≡ requestLast offset len ⌝ }
 {
     if len == 0 {
-        return Last::Refused(Refusal::RangeInvalid);
+        return Last::Refused(Fault::RangeInvalid);
     }
     if LARGEST_SUM - len < offset {
-        return Last::Refused(Refusal::RangeInvalid);
+        return Last::Refused(Fault::RangeInvalid);
     }
     Last::At(offset + (len - 1))
 }
 
-pub fn why_last(r: Last) -> Refusal
-    ensures { λ e. ⌜ e ≡ whyLast r ⌝ }
+pub fn why_last(r: Last) -> Fault
+    ensures { λ e. ⌜ faultNumber e ≡ refusalIn (answerOfLast r) ⌝ }
 {
     match r {
         Last::Refused(e) => e,
-        Last::At(_) => Refusal::RangeInvalid,
+        Last::At(_) => Fault::BytesRunOut,
     }
 }

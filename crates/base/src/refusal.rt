@@ -1,8 +1,9 @@
-// The refusals of the scope's table, and their numbers.
+// What is refused, with the numbers of the scope's table: what a reader finds wrong, and what a call answers.
 ghost use mathlib.Core.Path.{_≡_};
-ghost use Rattle.base.specs.Refusals.{numberOf};
+ghost use Rattle.base.specs.Refusals.{faultNumber, numberOf};
 
-pub enum Refusal {
+// What a reader of bytes and numbers finds wrong with them.
+pub enum Fault {
     BytesRunOut,
     BytesLeftOver,
     IomodeNotAllowed,
@@ -15,6 +16,12 @@ pub enum Refusal {
     UnitDisagrees,
     FlagUnknown,
     VersionInvalid,
+    ErrorInvalid,
+}
+
+// What a call answers: a reader's fault, or a refusal of its own.
+pub enum Refusal {
+    Fault(Fault),
     BindingDiffers,
     NoSupportedVersion,
     StateidNotZero,
@@ -27,25 +34,33 @@ pub enum Refusal {
     NoFreeSlot,
     NothingHeld,
     OutputTooShort,
-    ErrorInvalid,
+}
+
+pub fn fault_number(f: Fault) -> u32
+    ensures { λ r. ⌜ r ≡ faultNumber f ⌝ }
+{
+    match f {
+        Fault::BytesRunOut => 1,
+        Fault::BytesLeftOver => 2,
+        Fault::IomodeNotAllowed => 3,
+        Fault::LayoutTypeUnknown => 4,
+        Fault::RangeInvalid => 5,
+        Fault::PaddingNotZero => 6,
+        Fault::BooleanInvalid => 7,
+        Fault::OutsideLimit => 8,
+        Fault::ServerCountDiffers => 9,
+        Fault::UnitDisagrees => 10,
+        Fault::FlagUnknown => 11,
+        Fault::VersionInvalid => 12,
+        Fault::ErrorInvalid => 27,
+    }
 }
 
 pub fn number(e: Refusal) -> u32
     ensures { λ r. ⌜ r ≡ numberOf e ⌝ }
 {
     match e {
-        Refusal::BytesRunOut => 1,
-        Refusal::BytesLeftOver => 2,
-        Refusal::IomodeNotAllowed => 3,
-        Refusal::LayoutTypeUnknown => 4,
-        Refusal::RangeInvalid => 5,
-        Refusal::PaddingNotZero => 6,
-        Refusal::BooleanInvalid => 7,
-        Refusal::OutsideLimit => 8,
-        Refusal::ServerCountDiffers => 9,
-        Refusal::UnitDisagrees => 10,
-        Refusal::FlagUnknown => 11,
-        Refusal::VersionInvalid => 12,
+        Refusal::Fault(f) => fault_number(f),
         Refusal::BindingDiffers => 13,
         Refusal::NoSupportedVersion => 14,
         Refusal::StateidNotZero => 15,
@@ -58,6 +73,5 @@ pub fn number(e: Refusal) -> u32
         Refusal::NoFreeSlot => 24,
         Refusal::NothingHeld => 25,
         Refusal::OutputTooShort => 26,
-        Refusal::ErrorInvalid => 27,
     }
 }

@@ -2,8 +2,6 @@
 use Prim.Native.Nat.{ℕ}
 use Rattle.base.specs.Answer.{Answer, accepted, refused}
 use Rattle.base.specs.Refusals.{numberOf}
-use Rattle.base.specs.declared.refusal.Refusal.{Refusal}
-use Rattle.base.specs.declared.refusal.Refusal.the-variants.{NoSupportedVersion}
 use Rattle.binding.specs.declared.choice.Choice.{Choice}
 use Rattle.binding.specs.declared.choice.Choice.the-variants as choice
 use Rattle.binding.specs.declared.entry.Bound.{Bound}
@@ -13,10 +11,6 @@ use Rattle.binding.specs.declared.entry.Binding.the-variants as binding
 abbrev pub answerOfChoice : Choice → Answer ℕ
 answerOfChoice (choice.Entry i) = accepted i
 answerOfChoice (choice.Refused e) = refused (numberOf e)
-
-abbrev pub whyChoice : Choice → Refusal
-whyChoice (choice.Entry i) = NoSupportedVersion
-whyChoice (choice.Refused e) = e
 
 abbrev pub answerOfBinding : Binding → Answer Bound
 answerOfBinding (binding.Value b) = accepted b

@@ -1,6 +1,7 @@
 // The whole order of a binding: layout body, device body, place, set of versions, then server and entry.
 use crate::entry::Binding;
 use crate::entry::bind_server;
+use base::Fault;
 use base::MirrorNumber;
 use base::Refusal;
 use base::StripeNumber;
@@ -31,12 +32,12 @@ pub fn bind(
     let l = layout::read_layout(layout);
     let a = l.answer;
     let LayoutAnswer::Value(summary) = a else {
-        return Binding::Refused(layout::why_layout(a));
+        return Binding::Refused(Refusal::Fault(layout::why_layout(a)));
     };
     let d = device::read_device(device);
     let b = d.answer;
     let DeviceAnswer::Counts(_, count) = b else {
-        return Binding::Refused(device::why_device(b));
+        return Binding::Refused(Refusal::Fault(device::why_device(b)));
     };
     let m = mirror.0;
     let k = stripe.0;
@@ -47,7 +48,7 @@ pub fn bind(
         return Binding::Refused(Refusal::BeyondLayout);
     }
     if 15 < supported {
-        return Binding::Refused(Refusal::OutsideLimit);
+        return Binding::Refused(Refusal::Fault(Fault::OutsideLimit));
     }
     let i = (m * 16 + k) as usize;
     let start = wide(l.starts[i]);

@@ -1,15 +1,18 @@
 // Which version entry is chosen, and the filehandle at a place.
+use base::Fault;
 use base::Refusal;
 use device_version::Version;
-use server::ReadEnd;
 use xdr::Cursor;
+use xdr::ReadEnd;
 use xdr::ReadPart;
 ghost use mathlib.Core.Path.{_≡_};
+ghost use Rattle.base.specs.Answer.{refusalIn};
+ghost use Rattle.base.specs.Refusals.{numberOf};
 ghost use Prim.Native.Nat.{_≤_, _<_};
 ghost use lib.ListN.{take};
 ghost use Rattle.xdr.specs.Answers.{resOfPart};
 ghost use Rattle.binding.specs.Bindings.{chosenFrom, handleAt, supports};
-ghost use Rattle.binding.specs.Answers.{answerOfChoice, whyChoice};
+ghost use Rattle.binding.specs.Answers.{answerOfChoice};
 
 pub enum Choice {
     Entry(u32),
@@ -49,11 +52,11 @@ pub(crate) fn choose(set: u32, versions: [Version; 8], n: u32) -> Choice
 }
 
 pub(crate) fn why_choice(r: Choice) -> Refusal
-    ensures { λ e. ⌜ e ≡ whyChoice r ⌝ }
+    ensures { λ e. ⌜ numberOf e ≡ refusalIn (answerOfChoice r) ⌝ }
 {
     match r {
         Choice::Refused(e) => e,
-        Choice::Entry(_) => Refusal::NoSupportedVersion,
+        Choice::Entry(_) => Refusal::Fault(Fault::BytesRunOut),
     }
 }
 
@@ -63,7 +66,7 @@ pub(crate) fn read_handle(s: &[u8], first: Cursor, i: u32) -> ReadPart
 {
     let p = server::skip_handles(s, first, i);
     let ReadEnd::Value(c) = p else {
-        return ReadPart::Refused(server::why_end(p));
+        return ReadPart::Refused(xdr::why_end(p));
     };
     xdr::read_opaque(s, c, 1, 128)
 }

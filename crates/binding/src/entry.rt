@@ -77,7 +77,7 @@ fn bind_entry(s: &[u8], server: Server, v: Version, i: u32) -> Binding
         i,
     );
     let ReadPart::Value(filehandle, _) = h else {
-        return Binding::Refused(xdr::why_part(h));
+        return Binding::Refused(Refusal::Fault(xdr::why_part(h)));
     };
     if v.tight {
         return Binding::Value(Bound {
@@ -115,7 +115,7 @@ pub(crate) fn bind_server(
 {
     let r = server::read_server(s, Cursor { at: start });
     let ReadServer::Value(server, _) = r else {
-        return Binding::Refused(server::why_server(r));
+        return Binding::Refused(Refusal::Fault(server::why_server(r)));
     };
     if !server_matches(s, server, count, id) {
         return Binding::Refused(Refusal::BindingDiffers);

@@ -8,6 +8,7 @@ mod meaning;
 use arguments::ReadWish;
 use arguments::Wish;
 use base::Iomode;
+use base::Refusal;
 use columns::find_columns;
 use drawing::Subject;
 use events::Event;
@@ -89,7 +90,7 @@ fn chart(bytes: &[u8], wish: Wish) {
     let r = layout4::read_layout4(bytes);
     let a = r.answer;
     let Layout4Answer::Value(layout, summary) = a else {
-        say_refused(layout4::why_layout4(a));
+        say_refused(Refusal::Fault(layout4::why_layout4(a)));
         return;
     };
     let t = o.table;

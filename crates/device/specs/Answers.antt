@@ -1,9 +1,7 @@
 -- What the readers' answers say: the value and the place after it, or the number.
 use mathlib.Core.List.{List}
 use Rattle.base.specs.Answer.{Answer, accepted, refused}
-use Rattle.base.specs.Refusals.{numberOf}
-use Rattle.base.specs.declared.refusal.Refusal.{Refusal}
-use Rattle.base.specs.declared.refusal.Refusal.the-variants.{BytesRunOut}
+use Rattle.base.specs.Refusals.{faultNumber}
 use Rattle.xdr.specs.Res.{Res, ok, no}
 use Rattle.xdr.specs.declared.number.ReadU32.{ReadU32}
 use Rattle.xdr.specs.declared.number.ReadU32.the-variants as u32
@@ -17,17 +15,12 @@ use Rattle.device.specs.declared.body.DeviceRead.{DeviceRead}
 -- of a list, the answer is the count; the places stand beside it
 abbrev pub resOfList : {A : Type 0} → List A → ReadU32 → Res (Listed A)
 resOfList l (u32.Value n c) = ok (record { count = n; places = l }) (c .at)
-resOfList l (u32.Refused e) = no (numberOf e)
+resOfList l (u32.Refused e) = no (faultNumber e)
 
 abbrev pub deviceOf : DeviceAnswer → List Address → List Version → Answer Device
 deviceOf (device.Counts m n) addresses versions =
     accepted (record { addressCount = m; addresses = addresses; versionCount = n; versions = versions })
-deviceOf (device.Refused e) addresses versions = refused (numberOf e)
+deviceOf (device.Refused e) addresses versions = refused (faultNumber e)
 
 abbrev pub answerOfDevice : DeviceRead → Answer Device
 answerOfDevice r = deviceOf (r .answer) (r .addresses) (r .versions)
-
--- The refusal in an answer; of an answer with a value, the first of the refusals.
-abbrev pub whyDevice : DeviceAnswer → Refusal
-whyDevice (device.Counts m n) = BytesRunOut
-whyDevice (device.Refused e) = e

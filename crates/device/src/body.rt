@@ -1,5 +1,5 @@
 // The whole device body: a list of addresses, then a list of versions.
-use base::Refusal;
+use base::Fault;
 use device_version::ReadVersion;
 use device_version::Version;
 use device_version::read_version;
@@ -13,18 +13,19 @@ use xdr::Cursor;
 use xdr::Part;
 use xdr::ReadU32;
 ghost use mathlib.Core.Path.{_≡_};
+ghost use mathlib.Core.List.{[]};
 ghost use lib.ListN.{replicate};
-ghost use Rattle.base.specs.Answer.{refused};
-ghost use Rattle.base.specs.Refusals.{numberOf};
+ghost use Rattle.base.specs.Answer.{refusalIn, refused};
+ghost use Rattle.base.specs.Refusals.{faultNumber};
 ghost use Rattle.netaddr.specs.Addresses.{addressAt, blankAddress};
 ghost use Rattle.device_version.specs.Versions.{versionAt, blankVersion};
 ghost use Rattle.device.specs.Bodies.{listAt, deviceBody, addressesIn, versionsIn};
-ghost use Rattle.device.specs.Answers.{resOfList, answerOfDevice, whyDevice};
+ghost use Rattle.device.specs.Answers.{answerOfDevice, deviceOf, resOfList};
 
 // How many addresses and versions there are.
 pub enum DeviceAnswer {
     Counts(u32, u32),
-    Refused(Refusal),
+    Refused(Fault),
 }
 
 // Unused places are blank, and all of them after a refusal.
@@ -128,8 +129,8 @@ fn read_versions(s: &[u8], c: Cursor) -> VersionList
     }
 }
 
-fn refuse(e: Refusal) -> DeviceRead
-    ensures { λ r. ⌜ (answerOfDevice r ≡ refused (numberOf e)) × (r .addresses ≡ replicate 8 blankAddress) × (r .versions ≡ replicate 8 blankVersion) ⌝ }
+fn refuse(e: Fault) -> DeviceRead
+    ensures { λ r. ⌜ (answerOfDevice r ≡ refused (faultNumber e)) × (r .addresses ≡ replicate 8 blankAddress) × (r .versions ≡ replicate 8 blankVersion) ⌝ }
 {
     DeviceRead {
         answer: DeviceAnswer::Refused(e),
@@ -142,7 +143,7 @@ pub fn read_device(s: &[u8]) -> DeviceRead
     ensures { λ r. ⌜ (answerOfDevice r ≡ deviceBody (now (s .entry))) × (r .addresses ≡ addressesIn (deviceBody (now (s .entry)))) × (r .versions ≡ versionsIn (deviceBody (now (s .entry)))) ⌝ }
 {
     if LONGEST < s.len() {
-        return refuse(Refusal::OutsideLimit);
+        return refuse(Fault::OutsideLimit);
     }
     let a = read_addresses(s, Cursor { at: 0 });
     let first = a.answer;
@@ -155,7 +156,7 @@ pub fn read_device(s: &[u8]) -> DeviceRead
         return refuse(xdr::why_u32(second));
     };
     if e.at != s.len() {
-        return refuse(Refusal::BytesLeftOver);
+        return refuse(Fault::BytesLeftOver);
     }
     let addresses = a.places;
     let versions = v.places;
@@ -166,11 +167,11 @@ pub fn read_device(s: &[u8]) -> DeviceRead
     }
 }
 
-pub fn why_device(r: DeviceAnswer) -> Refusal
-    ensures { λ e. ⌜ e ≡ whyDevice r ⌝ }
+pub fn why_device(r: DeviceAnswer) -> Fault
+    ensures { λ e. ⌜ faultNumber e ≡ refusalIn (deviceOf r [] []) ⌝ }
 {
     match r {
         DeviceAnswer::Refused(e) => e,
-        DeviceAnswer::Counts(_, _) => Refusal::BytesRunOut,
+        DeviceAnswer::Counts(_, _) => Fault::BytesRunOut,
     }
 }

@@ -1,11 +1,13 @@
 // One version entry of a device body.
-use base::Refusal;
+use base::Fault;
 use xdr::Cursor;
 use xdr::ReadBool;
 use xdr::ReadU32;
 ghost use mathlib.Core.Path.{_≡_};
+ghost use Rattle.xdr.specs.Res.{faultIn};
+ghost use Rattle.base.specs.Refusals.{faultNumber};
 ghost use Rattle.device_version.specs.Versions.{versionAt, versionFits};
-ghost use Rattle.device_version.specs.Answers.{resOfVersion, whyVersion};
+ghost use Rattle.device_version.specs.Answers.{resOfVersion};
 
 pub struct Version {
     pub version: u32,
@@ -17,7 +19,7 @@ pub struct Version {
 
 pub enum ReadVersion {
     Value(Version, Cursor),
-    Refused(Refusal),
+    Refused(Fault),
 }
 
 fn version_fits(v: Version) -> bool
@@ -69,16 +71,16 @@ pub fn read_version(s: &[u8], c: Cursor) -> ReadVersion
         tight: tight,
     };
     if !version_fits(v) {
-        return ReadVersion::Refused(Refusal::VersionInvalid);
+        return ReadVersion::Refused(Fault::VersionInvalid);
     }
     ReadVersion::Value(v, c5)
 }
 
-pub fn why_version(r: ReadVersion) -> Refusal
-    ensures { λ e. ⌜ e ≡ whyVersion r ⌝ }
+pub fn why_version(r: ReadVersion) -> Fault
+    ensures { λ e. ⌜ faultNumber e ≡ faultIn (resOfVersion r) ⌝ }
 {
     match r {
         ReadVersion::Refused(e) => e,
-        ReadVersion::Value(_, _) => Refusal::BytesRunOut,
+        ReadVersion::Value(_, _) => Fault::BytesRunOut,
     }
 }

@@ -1,10 +1,8 @@
 -- What the types of the events' code stand for: an event, its order, what the rights say, and an outcome.
 use Prim.Native.Nat.{ℕ, _+_, _≤_}
 use mathlib.Core.List.{List}
-use Rattle.base.specs.Refusals.{numberOf}
+use Rattle.base.specs.Refusals.{faultNumber, numberOf}
 use Rattle.base.specs.Answer.{Answer, accepted, refused}
-use Rattle.base.specs.declared.refusal.Refusal.{Refusal}
-use Rattle.base.specs.declared.refusal.Refusal.the-variants.{NothingHeld, RangeInvalid}
 use Rattle.numbers.specs.Numbers.{bytesFrom}
 use Rattle.segments.specs.declared.Table.{Table}
 use Rattle.store.specs.Store.{Body}
@@ -50,11 +48,7 @@ orderOf o bytes = record {
 
 abbrev pub answerOfOrder : ReadOrder → List ℕ → Answer model.Order
 answerOfOrder (order.Value o) bytes = accepted (orderOf o bytes)
-answerOfOrder (order.Refused e) bytes = refused (numberOf e)
-
-abbrev pub whyOrder : ReadOrder → Refusal
-whyOrder (order.Value o) = RangeInvalid
-whyOrder (order.Refused e) = e
+answerOfOrder (order.Refused e) bytes = refused (faultNumber e)
 
 -- the body of an order lies in n bytes
 abbrev pub BodyIn : ReadOrder → ℕ → Type 0
@@ -66,10 +60,6 @@ BodyIn (order.Refused e) n = Unit {0}
 abbrev pub answerOfRuling : Ruling → Answer Step
 answerOfRuling (ruling.Allowed s) = accepted s
 answerOfRuling (ruling.Refused e) = refused (numberOf e)
-
-abbrev pub whyRuling : Ruling → Refusal
-whyRuling (ruling.Allowed s) = NothingHeld
-whyRuling (ruling.Refused e) = e
 
 -- ---- an outcome: 0 for accepted, else the refusal's number
 

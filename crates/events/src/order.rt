@@ -1,19 +1,21 @@
 // The second stage of an event: its own bytes and numbers. "5 before 3".
 use crate::event::Event;
 use crate::event::Numbers;
+use base::Fault;
 use base::Iomode;
 use base::Last;
 use base::ReadIomode;
-use base::Refusal;
 use layout4::Layout4Answer;
 use segments::Span;
 use xdr::Part;
 ghost use mathlib.Core.Path.{_≡_};
+ghost use Rattle.base.specs.Answer.{refusalIn};
+ghost use Rattle.base.specs.Refusals.{faultNumber};
 ghost use mathlib.Core.List.{List, []};
 ghost use Prim.Native.Nat.{ℕ};
 ghost use lib.ListN.{length};
 ghost use Rattle.reference.specs.Model.{Grant, own, rangeOrder};
-ghost use Rattle.events.specs.Answers.{BodyIn, answerOfOrder, deedOf, eventOf, whyOrder};
+ghost use Rattle.events.specs.Answers.{BodyIn, answerOfOrder, deedOf, eventOf};
 
 pub(crate) enum Deed {
     Grant,
@@ -33,7 +35,7 @@ pub(crate) struct Order {
 
 pub(crate) enum ReadOrder {
     Value(Order),
-    Refused(Refusal),
+    Refused(Fault),
 }
 
 const NOWHERE: Part = Part { start: 0, len: 0 };
@@ -115,11 +117,11 @@ pub(crate) fn read_own(e: Event, bytes: &[u8]) -> ReadOrder
     }
 }
 
-pub(crate) fn why_order(r: ReadOrder) -> Refusal
-    ensures { λ e. ⌜ e ≡ whyOrder r ⌝ }
+pub(crate) fn why_order(r: ReadOrder) -> Fault
+    ensures { λ e. ⌜ faultNumber e ≡ refusalIn (answerOfOrder r []) ⌝ }
 {
     match r {
         ReadOrder::Refused(e) => e,
-        ReadOrder::Value(_) => Refusal::RangeInvalid,
+        ReadOrder::Value(_) => Fault::BytesRunOut,
     }
 }

@@ -49,7 +49,7 @@ pub fn apply(t: Table, store: &mut [u8], e: Event, bytes: &[u8]) -> Outcome
     }
     let r = read_own(e, bytes);
     let ReadOrder::Value(o) = r else {
-        return refused(t, why_order(r));
+        return refused(t, Refusal::Fault(why_order(r)));
     };
     let named = j.named;
     obey(t, named, store, o, bytes)

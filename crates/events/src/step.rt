@@ -1,5 +1,6 @@
 // The third stage of an event: what the rights say. `named` says of each slot whether a segment of the table names it.
 use crate::order::Deed;
+use base::Fault;
 use base::Refusal;
 use base::SlotNumber;
 use lookup::Condition;
@@ -7,10 +8,12 @@ use segments::Span;
 use segments::Table;
 use slots::Home;
 ghost use mathlib.Core.Path.{_≡_};
+ghost use Rattle.base.specs.Answer.{refusalIn};
+ghost use Rattle.base.specs.Refusals.{numberOf};
 ghost use Rattle.lookup.specs.Lookup.{namedSlots};
 ghost use Rattle.reference.specs.Sound.{slotsIn};
 ghost use Rattle.slots.specs.Slots.{homeOf};
-ghost use Rattle.events.specs.Answers.{answerOfRuling, deedOf, whyRuling};
+ghost use Rattle.events.specs.Answers.{answerOfRuling, deedOf};
 ghost use Rattle.events.specs.Events.{elsewhere, grantAt, grantRuled, recallRuled, ruled};
 
 // What an order does: a grant under the slot that holds its body, a grant whose body goes into a free slot, bytes that
@@ -95,10 +98,10 @@ pub(crate) fn rule(
 }
 
 pub(crate) fn why_ruling(r: Ruling) -> Refusal
-    ensures { λ e. ⌜ e ≡ whyRuling r ⌝ }
+    ensures { λ e. ⌜ numberOf e ≡ refusalIn (answerOfRuling r) ⌝ }
 {
     match r {
         Ruling::Refused(e) => e,
-        Ruling::Allowed(_) => Refusal::NothingHeld,
+        Ruling::Allowed(_) => Refusal::Fault(Fault::BytesRunOut),
     }
 }

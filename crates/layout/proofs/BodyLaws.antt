@@ -5,8 +5,8 @@ use mathlib.Core.List.{List}
 use borrow.Author.Tests.{le-leb, lt-leb, eq-eqb, ne-eqb}
 use lib.ListN.{length, replicate}
 use Rattle.base.specs.Answer.{Answer, accepted, refused, pick}
-use Rattle.base.specs.Refusals.{numberOf}
-use Rattle.base.specs.declared.refusal.Refusal.{Refusal}
+use Rattle.base.specs.Refusals.{faultNumber}
+use Rattle.base.specs.declared.refusal.Fault.{Fault}
 use Rattle.xdr.specs.Res.{ok, no, then, whole}
 use Rattle.server.specs.declared.item.Server.{Server}
 use Rattle.layout.specs.Layouts.{Layout, frontAt, layoutAt, layoutBody, mirrorsAt, startsOf, tailAt}
@@ -34,8 +34,8 @@ unfolding layoutBody pick whole
 all-read s l p h e k = rw (le-leb _ _ h, e, eq-eqb _ _ k)
 
 -- both parts of the reader's contract after a refusal
-pub refused-whole : (a : LayoutAnswer) (t : List ℕ) (e : Refusal) (x : Answer Layout)
-    → a ≡ Refused e → t ≡ replicate 128 0 → x ≡ refused (numberOf e) → (answerOfLayout a t ≡ x) × (t ≡ startsIn x)
+pub refused-whole : (a : LayoutAnswer) (t : List ℕ) (e : Fault) (x : Answer Layout)
+    → a ≡ Refused e → t ≡ replicate 128 0 → x ≡ refused (faultNumber e) → (answerOfLayout a t ≡ x) × (t ≡ startsIn x)
 unfolding startsIn
 refused-whole a t e x h k q = (rw (h, q), rw (k, q))
 

@@ -2,16 +2,16 @@
 use Prim.Native.Nat.{ℕ, _+_}
 use mathlib.Core.List.{List, [], _∷_, map}
 use lib.Seq.{sets}
-use Rattle.base.specs.Refusals.{numberOf}
+use Rattle.base.specs.Refusals.{faultNumber}
 use Rattle.xdr.specs.Res.{Res, ok, no}
 use Rattle.server.specs.declared.item.Server.{Server}
-use Rattle.server.specs.declared.handles.ReadEnd.{ReadEnd}
-use Rattle.server.specs.declared.handles.ReadEnd.the-variants.{Value, Refused}
+use Rattle.xdr.specs.declared.end.ReadEnd.{ReadEnd}
+use Rattle.xdr.specs.declared.end.ReadEnd.the-variants.{Value, Refused}
 
 -- the table and the place behind what was read; a refusal says nothing of the table
 abbrev pub resOfStarts : ReadEnd → List ℕ → Res (List ℕ)
 resOfStarts (Value c) table = ok table (c .at)
-resOfStarts (Refused e) table = no (numberOf e)
+resOfStarts (Refused e) table = no (faultNumber e)
 
 -- the starts of a mirror's servers from the index k on
 unfoldable pub withServers : ℕ → Res (List Server) → List ℕ → Res (List ℕ)

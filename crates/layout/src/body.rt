@@ -6,13 +6,16 @@ use crate::ends::read_tail;
 use crate::ends::why_front;
 use crate::ends::why_tail;
 use crate::mirrors::read_mirrors;
-use base::Refusal;
-use server::ReadEnd;
+use base::Fault;
 use xdr::Cursor;
+use xdr::ReadEnd;
 ghost use mathlib.Core.Path.{_≡_};
+ghost use mathlib.Core.List.{[]};
+ghost use Rattle.base.specs.Answer.{refusalIn};
+ghost use Rattle.base.specs.Refusals.{faultNumber};
 ghost use lib.ListN.{replicate};
 ghost use Rattle.layout.specs.Layouts.{layoutBody};
-ghost use Rattle.layout.specs.Answers.{answerOfLayout, startsIn, whyLayout};
+ghost use Rattle.layout.specs.Answers.{answerOfLayout, startsIn};
 
 pub struct Summary {
     pub unit: u64,
@@ -24,7 +27,7 @@ pub struct Summary {
 
 pub enum LayoutAnswer {
     Value(Summary),
-    Refused(Refusal),
+    Refused(Fault),
 }
 
 // The start of a data server stands at the index mirror * 16 + stripe. Unused places are 0, and all after a refusal.
@@ -33,7 +36,7 @@ pub struct LayoutRead {
     pub starts: [u16; 128],
 }
 
-fn refused(e: Refusal) -> LayoutRead
+fn refused(e: Fault) -> LayoutRead
     ensures { λ r. ⌜ (r .answer ≡ LayoutAnswer.Refused e) × (r .starts ≡ replicate 128 0) ⌝ }
 {
     LayoutRead {
@@ -47,7 +50,7 @@ pub fn read_layout(s: &[u8]) -> LayoutRead
         × (r .starts ≡ startsIn (layoutBody (now (s .entry)))) ⌝ }
 {
     if 4090 < s.len() {
-        return refused(Refusal::OutsideLimit);
+        return refused(Fault::OutsideLimit);
     }
     let f = read_front(s, Cursor { at: 0 });
     let ReadFront::Value(front, c1) = f else {
@@ -56,14 +59,14 @@ pub fn read_layout(s: &[u8]) -> LayoutRead
     let mut starts = [0u16; 128];
     let m = read_mirrors(s, c1, front.mirrors, front.servers, &mut starts);
     let ReadEnd::Value(c2) = m else {
-        return refused(server::why_end(m));
+        return refused(xdr::why_end(m));
     };
     let t = read_tail(s, c2);
     let ReadTail::Value(tail, c3) = t else {
         return refused(why_tail(t));
     };
     if c3.at != s.len() {
-        return refused(Refusal::BytesLeftOver);
+        return refused(Fault::BytesLeftOver);
     }
     LayoutRead {
         answer: LayoutAnswer::Value(Summary {
@@ -77,11 +80,11 @@ pub fn read_layout(s: &[u8]) -> LayoutRead
     }
 }
 
-pub fn why_layout(r: LayoutAnswer) -> Refusal
-    ensures { λ e. ⌜ e ≡ whyLayout r ⌝ }
+pub fn why_layout(r: LayoutAnswer) -> Fault
+    ensures { λ e. ⌜ faultNumber e ≡ refusalIn (answerOfLayout r []) ⌝ }
 {
     match r {
         LayoutAnswer::Refused(e) => e,
-        LayoutAnswer::Value(_) => Refusal::BytesRunOut,
+        LayoutAnswer::Value(_) => Fault::BytesRunOut,
     }
 }

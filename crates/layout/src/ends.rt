@@ -1,11 +1,13 @@
 // What stands before the first data server of a layout body, and behind the last.
-use base::Refusal;
+use base::Fault;
 use xdr::Cursor;
 use xdr::ReadU32;
 use xdr::ReadU64;
 ghost use mathlib.Core.Path.{_≡_};
+ghost use Rattle.xdr.specs.Res.{faultIn};
+ghost use Rattle.base.specs.Refusals.{faultNumber};
 ghost use Rattle.layout.specs.Layouts.{frontAt, tailAt, unitFits};
-ghost use Rattle.layout.specs.Answers.{resOfFront, resOfTail, whyFront, whyTail};
+ghost use Rattle.layout.specs.Answers.{resOfFront, resOfTail};
 
 // The stripe unit, the mirror count and the first mirror's server count.
 pub struct Front {
@@ -16,7 +18,7 @@ pub struct Front {
 
 pub enum ReadFront {
     Value(Front, Cursor),
-    Refused(Refusal),
+    Refused(Fault),
 }
 
 pub struct Tail {
@@ -26,7 +28,7 @@ pub struct Tail {
 
 pub enum ReadTail {
     Value(Tail, Cursor),
-    Refused(Refusal),
+    Refused(Fault),
 }
 
 fn unit_fits(unit: u64, servers: u32) -> bool
@@ -54,7 +56,7 @@ pub(crate) fn read_front(s: &[u8], c: Cursor) -> ReadFront
         return ReadFront::Refused(xdr::why_u32(n));
     };
     if !unit_fits(unit, servers) {
-        return ReadFront::Refused(Refusal::UnitDisagrees);
+        return ReadFront::Refused(Fault::UnitDisagrees);
     }
     ReadFront::Value(
         Front {
@@ -74,7 +76,7 @@ pub(crate) fn read_tail(s: &[u8], c: Cursor) -> ReadTail
         return ReadTail::Refused(xdr::why_u32(f));
     };
     if 15 < flags {
-        return ReadTail::Refused(Refusal::FlagUnknown);
+        return ReadTail::Refused(Fault::FlagUnknown);
     }
     let h = xdr::read_u32(s, c1);
     let ReadU32::Value(hint, c2) = h else {
@@ -83,20 +85,20 @@ pub(crate) fn read_tail(s: &[u8], c: Cursor) -> ReadTail
     ReadTail::Value(Tail { flags, hint }, c2)
 }
 
-pub(crate) fn why_front(r: ReadFront) -> Refusal
-    ensures { λ e. ⌜ e ≡ whyFront r ⌝ }
+pub(crate) fn why_front(r: ReadFront) -> Fault
+    ensures { λ e. ⌜ faultNumber e ≡ faultIn (resOfFront r) ⌝ }
 {
     match r {
         ReadFront::Refused(e) => e,
-        ReadFront::Value(_, _) => Refusal::BytesRunOut,
+        ReadFront::Value(_, _) => Fault::BytesRunOut,
     }
 }
 
-pub(crate) fn why_tail(r: ReadTail) -> Refusal
-    ensures { λ e. ⌜ e ≡ whyTail r ⌝ }
+pub(crate) fn why_tail(r: ReadTail) -> Fault
+    ensures { λ e. ⌜ faultNumber e ≡ faultIn (resOfTail r) ⌝ }
 {
     match r {
         ReadTail::Refused(e) => e,
-        ReadTail::Value(_, _) => Refusal::BytesRunOut,
+        ReadTail::Value(_, _) => Fault::BytesRunOut,
     }
 }

@@ -1,8 +1,8 @@
 // The mirrors of a layout body, and where each data server starts. The loops borrow the table of starts, so that it is copied only once.
-use base::Refusal;
-use server::ReadEnd;
+use base::Fault;
 use server::ReadServer;
 use xdr::Cursor;
+use xdr::ReadEnd;
 use xdr::ReadU32;
 ghost use mathlib.Core.Path.{_≡_};
 ghost use Prim.Native.Nat.{_+_, _≤_};
@@ -44,7 +44,7 @@ fn read_mirror(s: &[u8], c: Cursor, n: u32, first: usize, starts: &mut [u16; 128
         return ReadEnd::Refused(xdr::why_u32(r));
     };
     if count != n {
-        return ReadEnd::Refused(Refusal::ServerCountDiffers);
+        return ReadEnd::Refused(Fault::ServerCountDiffers);
     }
     read_servers(s, d, n, first, starts)
 }

@@ -8,8 +8,8 @@ use borrow.Author.Tests.{eq-eqb, leb-false, leb-true, ne-eqb}
 use lib.Dec.{leb}
 use lib.ListN.{length, replicate}
 use Rattle.base.specs.Answer.{Answer, accepted, refused, pick}
-use Rattle.base.specs.Refusals.{numberOf}
-use Rattle.base.specs.declared.refusal.Refusal.{Refusal}
+use Rattle.base.specs.Refusals.{faultNumber}
+use Rattle.base.specs.declared.refusal.Fault.{Fault}
 use Rattle.numbers.specs.Numbers.{bytesFrom}
 use Rattle.xdr.specs.Res.{ok, no, then, asItem, whole}
 use Rattle.xdr.specs.Items.{bytesAt, padding}
@@ -62,8 +62,8 @@ module _ (s : List ℕ) (frame : Frame) (p : ℕ) (framed : frameAt s 0 ≡ ok f
       all-read place q e k = rw (framed, there, body, e, eq-eqb _ _ k)
 
 -- both parts of the reader's contract after a refusal
-pub refused-whole : (a : Layout4Answer) (t : List ℕ) (e : Refusal) (x : Answer Whole)
-    → a ≡ Refused e → t ≡ replicate 128 0 → x ≡ refused (numberOf e) → (answerOfLayout4 a t ≡ x) × (t ≡ startsIn x)
+pub refused-whole : (a : Layout4Answer) (t : List ℕ) (e : Fault) (x : Answer Whole)
+    → a ≡ Refused e → t ≡ replicate 128 0 → x ≡ refused (faultNumber e) → (answerOfLayout4 a t ≡ x) × (t ≡ startsIn x)
 unfolding startsIn
 refused-whole a t e x h k q = (rw (h, q), rw (k, q))
 

@@ -3,9 +3,7 @@ use Prim.Native.Nat.{ℕ}
 use mathlib.Core.List.{List}
 use lib.ListN.{replicate}
 use Rattle.base.specs.Answer.{Answer, accepted, refused}
-use Rattle.base.specs.Refusals.{numberOf}
-use Rattle.base.specs.declared.refusal.Refusal.{Refusal}
-use Rattle.base.specs.declared.refusal.Refusal.the-variants.{BytesRunOut}
+use Rattle.base.specs.Refusals.{faultNumber}
 use Rattle.xdr.specs.Res.{Res, ok, no}
 use Rattle.layout4.specs.Layout4s.{Whole}
 use Rattle.layout4.specs.declared.frame.Range.{Range}
@@ -19,27 +17,15 @@ use Rattle.layout4.specs.declared.whole.Layout4Answer.the-variants as la
 
 abbrev pub resOfRange : ReadRange → Res Range
 resOfRange (range.Value v c) = ok v (c .at)
-resOfRange (range.Refused e) = no (numberOf e)
-
-abbrev pub whyRange : ReadRange → Refusal
-whyRange (range.Value v c) = BytesRunOut
-whyRange (range.Refused e) = e
+resOfRange (range.Refused e) = no (faultNumber e)
 
 abbrev pub resOfFrame : ReadFrame → Res Frame
 resOfFrame (frame.Value v c) = ok v (c .at)
-resOfFrame (frame.Refused e) = no (numberOf e)
-
-abbrev pub whyFrame : ReadFrame → Refusal
-whyFrame (frame.Value v c) = BytesRunOut
-whyFrame (frame.Refused e) = e
+resOfFrame (frame.Refused e) = no (faultNumber e)
 
 abbrev pub answerOfLayout4 : Layout4Answer → List ℕ → Answer Whole
 answerOfLayout4 (layout4.Value l summary) starts = accepted (record { frame = l; body = record { summary = summary; starts = starts } })
-answerOfLayout4 (layout4.Refused e) starts = refused (numberOf e)
-
-abbrev pub whyLayout4 : Layout4Answer → Refusal
-whyLayout4 (layout4.Value l summary) = BytesRunOut
-whyLayout4 (layout4.Refused e) = e
+answerOfLayout4 (layout4.Refused e) starts = refused (faultNumber e)
 
 -- the starts of an answer: 128 zeros after a refusal
 unfoldable pub startsIn : Answer Whole → List ℕ

@@ -1,14 +1,16 @@
 // What stands before the body of a layout4.
+use base::Fault;
 use base::Iomode;
 use base::Last;
 use base::ReadIomode;
-use base::Refusal;
 use xdr::Cursor;
 use xdr::ReadU32;
 use xdr::ReadU64;
 ghost use mathlib.Core.Path.{_≡_};
+ghost use Rattle.xdr.specs.Res.{faultIn};
+ghost use Rattle.base.specs.Refusals.{faultNumber};
 ghost use Rattle.layout4.specs.Layout4s.{frameAt, rangeAt};
-ghost use Rattle.layout4.specs.Answers.{resOfFrame, resOfRange, whyFrame, whyRange};
+ghost use Rattle.layout4.specs.Answers.{resOfFrame, resOfRange};
 
 // Offset and length as on the wire, and the last byte.
 pub struct Range {
@@ -19,7 +21,7 @@ pub struct Range {
 
 pub enum ReadRange {
     Value(Range, Cursor),
-    Refused(Refusal),
+    Refused(Fault),
 }
 
 pub struct Frame {
@@ -30,7 +32,7 @@ pub struct Frame {
 
 pub enum ReadFrame {
     Value(Frame, Cursor),
-    Refused(Refusal),
+    Refused(Fault),
 }
 
 pub(crate) fn read_range(s: &[u8], c: Cursor) -> ReadRange
@@ -78,7 +80,7 @@ pub(crate) fn read_frame(s: &[u8], c: Cursor) -> ReadFrame
         return ReadFrame::Refused(xdr::why_u32(t));
     };
     if kind != 4 {
-        return ReadFrame::Refused(Refusal::LayoutTypeUnknown);
+        return ReadFrame::Refused(Fault::LayoutTypeUnknown);
     }
     let n = xdr::read_count(s, c3, 0, 4090);
     let ReadU32::Value(size, c4) = n else {
@@ -94,20 +96,20 @@ pub(crate) fn read_frame(s: &[u8], c: Cursor) -> ReadFrame
     )
 }
 
-pub(crate) fn why_range(r: ReadRange) -> Refusal
-    ensures { λ e. ⌜ e ≡ whyRange r ⌝ }
+pub(crate) fn why_range(r: ReadRange) -> Fault
+    ensures { λ e. ⌜ faultNumber e ≡ faultIn (resOfRange r) ⌝ }
 {
     match r {
         ReadRange::Refused(e) => e,
-        ReadRange::Value(_, _) => Refusal::BytesRunOut,
+        ReadRange::Value(_, _) => Fault::BytesRunOut,
     }
 }
 
-pub(crate) fn why_frame(r: ReadFrame) -> Refusal
-    ensures { λ e. ⌜ e ≡ whyFrame r ⌝ }
+pub(crate) fn why_frame(r: ReadFrame) -> Fault
+    ensures { λ e. ⌜ faultNumber e ≡ faultIn (resOfFrame r) ⌝ }
 {
     match r {
         ReadFrame::Refused(e) => e,
-        ReadFrame::Value(_, _) => Refusal::BytesRunOut,
+        ReadFrame::Value(_, _) => Fault::BytesRunOut,
     }
 }

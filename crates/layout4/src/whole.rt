@@ -3,20 +3,23 @@ use crate::frame::Frame;
 use crate::frame::ReadFrame;
 use crate::frame::read_frame;
 use crate::frame::why_frame;
+use base::Fault;
 use base::Iomode;
-use base::Refusal;
 use layout::LayoutAnswer;
 use layout::Summary;
 use xdr::Cursor;
 use xdr::Part;
 use xdr::ReadPart;
 ghost use mathlib.Core.Path.{_≡_};
+ghost use mathlib.Core.List.{[]};
+ghost use Rattle.base.specs.Answer.{refusalIn};
+ghost use Rattle.base.specs.Refusals.{faultNumber};
 ghost use Prim.Native.Nat.{_+_};
 ghost use lib.Dec.{leb};
 ghost use lib.ListN.{length, replicate};
 ghost use Rattle.xdr.specs.Items.{padding};
 ghost use Rattle.layout4.specs.Layout4s.{layout4};
-ghost use Rattle.layout4.specs.Answers.{answerOfLayout4, startsIn, whyLayout4};
+ghost use Rattle.layout4.specs.Answers.{answerOfLayout4, startsIn};
 
 // Offset and length as on the wire, the last byte, and where the body stands.
 pub struct Layout4 {
@@ -29,7 +32,7 @@ pub struct Layout4 {
 
 pub enum Layout4Answer {
     Value(Layout4, Summary),
-    Refused(Refusal),
+    Refused(Fault),
 }
 
 // The starts are the body's, counted from its first byte; all 0 after a refusal.
@@ -38,7 +41,7 @@ pub struct Layout4Read {
     pub starts: [u16; 128],
 }
 
-fn refused(e: Refusal) -> Layout4Read
+fn refused(e: Fault) -> Layout4Read
     ensures { λ r. ⌜ (r .answer ≡ Layout4Answer.Refused e) × (r .starts ≡ replicate 128 0) ⌝ }
 {
     Layout4Read {
@@ -83,7 +86,7 @@ pub fn read_layout4(s: &[u8]) -> Layout4Read
     };
     let at = c1.at;
     if !enough(s, at, frame.size) {
-        return refused(Refusal::BytesRunOut);
+        return refused(Fault::BytesRunOut);
     }
     let end = at + frame.size as usize;
     let body = layout::read_layout(&s[at..end]);
@@ -96,7 +99,7 @@ pub fn read_layout4(s: &[u8]) -> Layout4Read
         return refused(xdr::why_part(p));
     };
     if c2.at != s.len() {
-        return refused(Refusal::BytesLeftOver);
+        return refused(Fault::BytesLeftOver);
     }
     let starts = body.starts;
     let l = layout4_in(frame, part);
@@ -106,11 +109,11 @@ pub fn read_layout4(s: &[u8]) -> Layout4Read
     }
 }
 
-pub fn why_layout4(r: Layout4Answer) -> Refusal
-    ensures { λ e. ⌜ e ≡ whyLayout4 r ⌝ }
+pub fn why_layout4(r: Layout4Answer) -> Fault
+    ensures { λ e. ⌜ faultNumber e ≡ refusalIn (answerOfLayout4 r []) ⌝ }
 {
     match r {
         Layout4Answer::Refused(e) => e,
-        Layout4Answer::Value(_, _) => Refusal::BytesRunOut,
+        Layout4Answer::Value(_, _) => Fault::BytesRunOut,
     }
 }

@@ -1,13 +1,15 @@
 // One network address of a device body: a netid and an address text.
 use crate::netid::NetidClass;
 use crate::netid::class_of;
-use base::Refusal;
+use base::Fault;
 use xdr::Cursor;
 use xdr::Part;
 use xdr::ReadPart;
 ghost use mathlib.Core.Path.{_≡_};
+ghost use Rattle.xdr.specs.Res.{faultIn};
+ghost use Rattle.base.specs.Refusals.{faultNumber};
 ghost use Rattle.netaddr.specs.Addresses.{addressAt};
-ghost use Rattle.netaddr.specs.Answers.{resOfAddress, whyAddress};
+ghost use Rattle.netaddr.specs.Answers.{resOfAddress};
 
 // The class of the netid, and where the address text stands in the body.
 pub struct Address {
@@ -17,7 +19,7 @@ pub struct Address {
 
 pub enum ReadAddress {
     Value(Address, Cursor),
-    Refused(Refusal),
+    Refused(Fault),
 }
 
 pub fn read_address(s: &[u8], c: Cursor) -> ReadAddress
@@ -43,11 +45,11 @@ pub fn read_address(s: &[u8], c: Cursor) -> ReadAddress
     )
 }
 
-pub fn why_address(r: ReadAddress) -> Refusal
-    ensures { λ e. ⌜ e ≡ whyAddress r ⌝ }
+pub fn why_address(r: ReadAddress) -> Fault
+    ensures { λ e. ⌜ faultNumber e ≡ faultIn (resOfAddress r) ⌝ }
 {
     match r {
         ReadAddress::Refused(e) => e,
-        ReadAddress::Value(_, _) => Refusal::BytesRunOut,
+        ReadAddress::Value(_, _) => Fault::BytesRunOut,
     }
 }

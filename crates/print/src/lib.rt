@@ -1,4 +1,5 @@
 // Words and numbers, to standard output.
+use base::Fault;
 use base::Refusal;
 use libc::STDOUT_FILENO;
 ghost use Prim.Native.Nat.{_≤_};
@@ -90,4 +91,9 @@ pub fn say_device_id(bytes: &[u8], at: usize) {
 // A refusal, behind what was asked.
 pub fn say_refused(e: Refusal) {
     say_field(b" refused ", base::number(e) as u64);
+}
+
+// What a reader found wrong, likewise.
+pub fn say_fault(e: Fault) {
+    say_refused(Refusal::Fault(e));
 }

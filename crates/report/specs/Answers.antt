@@ -4,9 +4,7 @@ use mathlib.Core.List.{List, [], _++_, map}
 use lib.ListN.{length, replicate}
 use Rattle.base.specs.Answer.{Answer, accepted, refused, given}
 use Rattle.base.specs.Lists.{padded}
-use Rattle.base.specs.Refusals.{numberOf}
-use Rattle.base.specs.declared.refusal.Refusal.{Refusal}
-use Rattle.base.specs.declared.refusal.Refusal.the-variants.{BytesRunOut}
+use Rattle.base.specs.Refusals.{faultNumber}
 use Rattle.numbers.specs.Numbers.{bytesFrom}
 use Rattle.xdr.specs.Res.{Res, ok, no, then}
 use Rattle.report.specs.Reports.{Report}
@@ -14,8 +12,8 @@ use Rattle.report.specs.declared.ErrorItem.{ErrorItem}
 use Rattle.report.specs.declared.ReportHead.{ReportHead}
 use Rattle.report.specs.declared.body.ReportAnswer.{ReportAnswer}
 use Rattle.report.specs.declared.body.ReportAnswer.the-variants as answer
-use Rattle.report.specs.declared.error.ReadEnd.{ReadEnd}
-use Rattle.report.specs.declared.error.ReadEnd.the-variants as end
+use Rattle.xdr.specs.declared.end.ReadEnd.{ReadEnd}
+use Rattle.xdr.specs.declared.end.ReadEnd.the-variants as end
 use Rattle.report.specs.declared.error.ReadError.{ReadError}
 use Rattle.report.specs.declared.error.ReadError.the-variants as error
 use Rattle.report.specs.declared.head.HeadItem.{HeadItem}
@@ -26,11 +24,7 @@ use Rattle.report.specs.declared.head.ReadReport.the-variants as report
 
 abbrev pub resOfError : ReadError → Res ErrorItem
 resOfError (error.Value e c) = ok e (c .at)
-resOfError (error.Refused e) = no (numberOf e)
-
-abbrev pub resOfEnd : ReadEnd → Res (Unit {0})
-resOfEnd (end.Value c) = ok tt (c .at)
-resOfEnd (end.Refused e) = no (numberOf e)
+resOfError (error.Refused e) = no (faultNumber e)
 
 -- a head whose stateid stands in the bytes s
 abbrev pub headFrom : List ℕ → HeadItem → ReportHead
@@ -38,11 +32,11 @@ headFrom s h = record { offset = h .offset; length = h .length; stateid = bytesF
 
 abbrev pub resOfHead : List ℕ → ReadHead → Res ReportHead
 resOfHead s (head.Value h c) = ok (headFrom s h) (c .at)
-resOfHead s (head.Refused e) = no (numberOf e)
+resOfHead s (head.Refused e) = no (faultNumber e)
 
 abbrev pub resOfReport : List ℕ → ReadReport → Res Report
 resOfReport s (report.Value h first c) = ok (record { head = headFrom s h; errors-at = first }) (c .at)
-resOfReport s (report.Refused e) = no (numberOf e)
+resOfReport s (report.Refused e) = no (faultNumber e)
 
 -- ---- the arrays of 8 places
 
@@ -67,7 +61,7 @@ countOf a = given a λ rs. accepted (length rs)
 
 abbrev pub answerOfCount : ReportAnswer → Answer ℕ
 answerOfCount (answer.Count n) = accepted n
-answerOfCount (answer.Refused e) = refused (numberOf e)
+answerOfCount (answer.Refused e) = refused (faultNumber e)
 
 -- both arrays, where the reports behind the ones already read were read
 unfoldable pub arraysFrom : List Report → Res (List Report) → Res (List ReportHead × List ℕ)
@@ -75,22 +69,6 @@ arraysFrom done x = then x λ rs p. ok (headsOf (done ++ rs), placesOf (done ++ 
 
 abbrev pub resOfArrays : ReadEnd → List ReportHead → List ℕ → Res (List ReportHead × List ℕ)
 resOfArrays (end.Value c) heads places = ok (heads, places) (c .at)
-resOfArrays (end.Refused e) heads places = no (numberOf e)
+resOfArrays (end.Refused e) heads places = no (faultNumber e)
 
 -- ---- the refusal in an answer; of an answer with a value, the first of the refusals
-
-abbrev pub whyError : ReadError → Refusal
-whyError (error.Value e c) = BytesRunOut
-whyError (error.Refused e) = e
-
-abbrev pub whyEnd : ReadEnd → Refusal
-whyEnd (end.Value c) = BytesRunOut
-whyEnd (end.Refused e) = e
-
-abbrev pub whyHead : ReadHead → Refusal
-whyHead (head.Value h c) = BytesRunOut
-whyHead (head.Refused e) = e
-
-abbrev pub whyReport : ReadReport → Refusal
-whyReport (report.Value h first c) = BytesRunOut
-whyReport (report.Refused e) = e

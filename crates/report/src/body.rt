@@ -1,26 +1,25 @@
 // The whole body: the reports, the statistics count, and the end.
 use crate::ReportHead;
-use crate::error::ReadEnd;
-use crate::error::why_end;
 use crate::head::ReadReport;
 use crate::head::head_of;
 use crate::head::read_report;
 use crate::head::why_report;
-use base::Refusal;
+use base::Fault;
 use xdr::Cursor;
+use xdr::ReadEnd;
 use xdr::ReadU32;
 ghost use mathlib.Core.Path.{_≡_};
 ghost use Prim.Native.Nat.{_≤_};
 ghost use mathlib.Core.List.{[]};
 ghost use Rattle.base.specs.Answer.{refused as refusedBy};
-ghost use Rattle.base.specs.Refusals.{numberOf};
+ghost use Rattle.base.specs.Refusals.{faultNumber};
 ghost use Rattle.xdr.specs.Res.{manyAt};
 ghost use Rattle.report.specs.Reports.{reportAt, reportBody};
 ghost use Rattle.report.specs.Answers.{answerOfCount, blankHead, countOf, headsOf, placesOf, reportsIn, resOfArrays, arraysFrom};
 
 pub enum ReportAnswer {
     Count(u32),
-    Refused(Refusal),
+    Refused(Fault),
 }
 
 // The reports' heads, and where the first error of each stands. Places past the count are blank, and so is each after a refusal.
@@ -84,8 +83,8 @@ fn read_arrays(s: &[u8], c: Cursor, n: u32) -> Arrays
     }
 }
 
-fn refused(e: Refusal) -> ReportsRead
-    ensures { λ r. ⌜ (answerOfCount (r .answer) ≡ refusedBy (numberOf e)) × (r .heads ≡ headsOf []) × (r .«errors_at» ≡ placesOf []) ⌝ }
+fn refused(e: Fault) -> ReportsRead
+    ensures { λ r. ⌜ (answerOfCount (r .answer) ≡ refusedBy (faultNumber e)) × (r .heads ≡ headsOf []) × (r .«errors_at» ≡ placesOf []) ⌝ }
 {
     let blank = blank_head();
     let heads = [blank; 8];
@@ -111,14 +110,14 @@ pub fn read_reports(s: &[u8]) -> ReportsRead
     let arrays = read_arrays(s, c1, n);
     let end = arrays.end;
     let ReadEnd::Value(c2) = end else {
-        return refused(why_end(end));
+        return refused(xdr::why_end(end));
     };
     let rk = xdr::read_count(s, c2, 0, 0);
     let ReadU32::Value(_, c3) = rk else {
         return refused(xdr::why_u32(rk));
     };
     if c3.at != s.len() {
-        return refused(Refusal::BytesLeftOver);
+        return refused(Fault::BytesLeftOver);
     }
     let answer = ReportAnswer::Count(n);
     let heads = arrays.heads;

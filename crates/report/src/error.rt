@@ -1,23 +1,20 @@
 // One error, and a run of errors.
 use crate::ErrorItem;
-use base::Refusal;
+use base::Fault;
 use xdr::Cursor;
+use xdr::ReadEnd;
 use xdr::ReadPart;
 use xdr::ReadU32;
 ghost use mathlib.Core.Path.{_≡_};
-ghost use Rattle.xdr.specs.Res.{endOf, manyAt};
+ghost use Rattle.base.specs.Refusals.{faultNumber};
+ghost use Rattle.xdr.specs.Res.{endOf, faultIn, manyAt};
 ghost use Rattle.report.specs.Reports.{errorFits, errorAt};
-ghost use Rattle.report.specs.Answers.{resOfError, resOfEnd, whyEnd, whyError};
+ghost use Rattle.report.specs.Answers.{resOfError};
+ghost use Rattle.xdr.specs.Answers.{resOfEnd};
 
 pub enum ReadError {
     Value(ErrorItem, Cursor),
-    Refused(Refusal),
-}
-
-// Where a run of items ends.
-pub enum ReadEnd {
-    Value(Cursor),
-    Refused(Refusal),
+    Refused(Fault),
 }
 
 pub fn error_fits(status: u32, operation: u32) -> bool
@@ -50,7 +47,7 @@ pub fn read_error(s: &[u8], c: Cursor) -> ReadError
         return ReadError::Refused(xdr::why_u32(ro));
     };
     if !error_fits(status, operation) {
-        return ReadError::Refused(Refusal::ErrorInvalid);
+        return ReadError::Refused(Fault::ErrorInvalid);
     }
     let start = device.start;
     let item = ErrorItem {
@@ -61,12 +58,12 @@ pub fn read_error(s: &[u8], c: Cursor) -> ReadError
     ReadError::Value(item, c3)
 }
 
-pub(crate) fn why_error(r: ReadError) -> Refusal
-    ensures { λ e. ⌜ e ≡ whyError r ⌝ }
+pub(crate) fn why_error(r: ReadError) -> Fault
+    ensures { λ e. ⌜ faultNumber e ≡ faultIn (resOfError r) ⌝ }
 {
     match r {
         ReadError::Refused(e) => e,
-        ReadError::Value(_, _) => Refusal::BytesRunOut,
+        ReadError::Value(_, _) => Fault::BytesRunOut,
     }
 }
 
@@ -85,13 +82,4 @@ pub(crate) fn read_errors(s: &[u8], c: Cursor, n: u32) -> ReadEnd
         left -= 1;
     }
     ReadEnd::Value(d)
-}
-
-pub(crate) fn why_end(r: ReadEnd) -> Refusal
-    ensures { λ e. ⌜ e ≡ whyEnd r ⌝ }
-{
-    match r {
-        ReadEnd::Refused(e) => e,
-        ReadEnd::Value(_) => Refusal::BytesRunOut,
-    }
 }

@@ -1,21 +1,23 @@
 // One report: what stands before its errors, and the errors.
 use crate::ReportHead;
-use crate::error::ReadEnd;
 use crate::error::read_errors;
-use crate::error::why_end;
+use base::Fault;
 use base::Last;
-use base::Refusal;
 use xdr::Cursor;
+use xdr::ReadEnd;
 use xdr::ReadPart;
 use xdr::ReadU32;
 use xdr::ReadU64;
 ghost use mathlib.Core.Path.{_≡_};
+ghost use mathlib.Core.List.{[]};
+ghost use Rattle.xdr.specs.Res.{faultIn};
+ghost use Rattle.base.specs.Refusals.{faultNumber};
 ghost use Prim.Native.Nat.{_+_, _≤_};
 ghost use lib.ListN.{length};
 ghost use Rattle.base.specs.Ranges.{answerOfLast, rangeLast};
 ghost use Rattle.numbers.specs.Numbers.{bytesFrom};
 ghost use Rattle.report.specs.Reports.{headAt, reportAt};
-ghost use Rattle.report.specs.Answers.{headFrom, resOfHead, resOfReport, whyHead, whyReport};
+ghost use Rattle.report.specs.Answers.{headFrom, resOfHead, resOfReport};
 
 // A `ReportHead` whose stateid is still in the bytes: `stateid` is its place.
 pub struct HeadItem {
@@ -27,13 +29,13 @@ pub struct HeadItem {
 
 pub enum ReadHead {
     Value(HeadItem, Cursor),
-    Refused(Refusal),
+    Refused(Fault),
 }
 
 // What stands before the errors, where the first error stands, and the place after the report.
 pub enum ReadReport {
     Value(HeadItem, usize, Cursor),
-    Refused(Refusal),
+    Refused(Fault),
 }
 
 fn stateid_at(s: &[u8], at: usize) -> [u8; 16]
@@ -114,25 +116,25 @@ pub(crate) fn read_report(s: &[u8], c: Cursor) -> ReadReport
     let first = d.at;
     let re = read_errors(s, d, errors);
     let ReadEnd::Value(e) = re else {
-        return ReadReport::Refused(why_end(re));
+        return ReadReport::Refused(xdr::why_end(re));
     };
     ReadReport::Value(item, first, e)
 }
 
-pub(crate) fn why_head(r: ReadHead) -> Refusal
-    ensures { λ e. ⌜ e ≡ whyHead r ⌝ }
+pub(crate) fn why_head(r: ReadHead) -> Fault
+    ensures { λ e. ⌜ faultNumber e ≡ faultIn (resOfHead [] r) ⌝ }
 {
     match r {
         ReadHead::Refused(e) => e,
-        ReadHead::Value(_, _) => Refusal::BytesRunOut,
+        ReadHead::Value(_, _) => Fault::BytesRunOut,
     }
 }
 
-pub(crate) fn why_report(r: ReadReport) -> Refusal
-    ensures { λ e. ⌜ e ≡ whyReport r ⌝ }
+pub(crate) fn why_report(r: ReadReport) -> Fault
+    ensures { λ e. ⌜ faultNumber e ≡ faultIn (resOfReport [] r) ⌝ }
 {
     match r {
         ReadReport::Refused(e) => e,
-        ReadReport::Value(_, _, _) => Refusal::BytesRunOut,
+        ReadReport::Value(_, _, _) => Fault::BytesRunOut,
     }
 }

@@ -3,9 +3,7 @@ use Prim.Native.Nat.{ℕ}
 use mathlib.Core.List.{List}
 use lib.ListN.{length}
 use Rattle.base.specs.Answer.{Answer, accepted, refused, given}
-use Rattle.base.specs.Refusals.{numberOf}
-use Rattle.base.specs.declared.refusal.Refusal.{Refusal}
-use Rattle.base.specs.declared.refusal.Refusal.the-variants.{BytesRunOut}
+use Rattle.base.specs.Refusals.{faultNumber, numberOf}
 use Rattle.report_write.specs.declared.body.Written.{Written}
 use Rattle.report_write.specs.declared.body.Written.the-variants as written
 use Rattle.report_write.specs.declared.judge.Judged.{Judged}
@@ -21,9 +19,4 @@ lengthOf a = given a λ bs. accepted (length bs)
 
 abbrev pub answerOfJudged : Judged → Answer (Unit {0})
 answerOfJudged judged.Allowed = accepted tt
-answerOfJudged (judged.Refused e) = refused (numberOf e)
-
--- The refusal in an answer; of an answer without one, the first of the refusals.
-abbrev pub whyJudged : Judged → Refusal
-whyJudged judged.Allowed = BytesRunOut
-whyJudged (judged.Refused e) = e
+answerOfJudged (judged.Refused e) = refused (faultNumber e)

@@ -4,6 +4,7 @@ use crate::judge::judge;
 use crate::judge::total;
 use crate::judge::why_judged;
 use crate::put::put_reports;
+use base::Fault;
 use base::Refusal;
 use report::ReportHead;
 ghost use mathlib.Core.Path.{_≡_};
@@ -28,15 +29,15 @@ pub fn write_reports(
         × (now (out .exit) ≡ outputAfter (now (out .entry)) (reportsWritten count heads (recordsFrom «list_length» 0 (now (errors .entry))) (length (now (out .entry))))) ⌝ }
 {
     if 8 < count {
-        return Written::Refused(Refusal::OutsideLimit);
+        return Written::Refused(Refusal::Fault(Fault::OutsideLimit));
     }
     let n = count as usize;
     if total(heads, n) != list_length as u64 {
-        return Written::Refused(Refusal::OutsideLimit);
+        return Written::Refused(Refusal::Fault(Fault::OutsideLimit));
     }
     let j = judge(heads, n, errors);
     let Judged::Allowed = j else {
-        return Written::Refused(why_judged(j));
+        return Written::Refused(Refusal::Fault(why_judged(j)));
     };
     let size = 8 + 36 * n + 24 * list_length;
     if out.len() < size {

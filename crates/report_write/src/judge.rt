@@ -1,17 +1,19 @@
 // Whether reports may be written: the sum of their error counts, and each report in order.
+use base::Fault;
 use base::Last;
-use base::Refusal;
 use report::ReportHead;
 ghost use mathlib.Core.Path.{_≡_};
+ghost use Rattle.base.specs.Answer.{refusalIn};
+ghost use Rattle.base.specs.Refusals.{faultNumber};
 ghost use Prim.Native.Nat.{_+_, _≤_};
 ghost use lib.ListN.{length, take};
 ghost use mathlib.Core.Bool.{true};
 ghost use Rattle.report_write.specs.Writing.{allFit, counts, judged, judgedOne, recordsFrom, stateidsWhole};
-ghost use Rattle.report_write.specs.Answers.{answerOfJudged, whyJudged};
+ghost use Rattle.report_write.specs.Answers.{answerOfJudged};
 
 pub enum Judged {
     Allowed,
-    Refused(Refusal),
+    Refused(Fault),
 }
 
 // The error count of a head. A caller cannot see how long an element's stateid is, so this says it.
@@ -69,14 +71,14 @@ fn judge_one(head: ReportHead, errors: &[u8], k: usize) -> Judged
         return Judged::Refused(base::why_last(last));
     };
     if head.errors < 1 {
-        return Judged::Refused(Refusal::OutsideLimit);
+        return Judged::Refused(Fault::OutsideLimit);
     }
     if 16 < head.errors {
-        return Judged::Refused(Refusal::OutsideLimit);
+        return Judged::Refused(Fault::OutsideLimit);
     }
     let n = head.errors as usize;
     if !errors_fit(errors, k, n) {
-        return Judged::Refused(Refusal::ErrorInvalid);
+        return Judged::Refused(Fault::ErrorInvalid);
     }
     Judged::Allowed
 }
@@ -101,11 +103,11 @@ pub(crate) fn judge(heads: [ReportHead; 8], count: usize, errors: &[u8]) -> Judg
     Judged::Allowed
 }
 
-pub(crate) fn why_judged(r: Judged) -> Refusal
-    ensures { λ e. ⌜ e ≡ whyJudged r ⌝ }
+pub(crate) fn why_judged(r: Judged) -> Fault
+    ensures { λ e. ⌜ faultNumber e ≡ refusalIn (answerOfJudged r) ⌝ }
 {
     match r {
         Judged::Refused(e) => e,
-        Judged::Allowed => Refusal::BytesRunOut,
+        Judged::Allowed => Fault::BytesRunOut,
     }
 }

@@ -60,7 +60,7 @@ pub judged-known : (t : Table) (store : List ℕ) (i : ℕ) (a : LayoutAnswer) (
 unfolding layoutJudged layoutNamed layoutIn pick
 judged-known t store i a starts h l e = go (sound t store) (ltb i 8 && isNamed t i) (sym h ∙ e)
   where
-    go : (b d : Bool) → pick b (pick d (layoutBody (bodyIn (slotAt store i))) (refused 20)) (refused 20) ≡ accepted l → layoutBody (bodyIn (slotAt store i)) ≡ accepted l
+    go : (b d : Bool) → pick b (pick d (layoutBody (bodyIn (slotAt store i))) (refused 1)) (refused 1) ≡ accepted l → layoutBody (bodyIn (slotAt store i)) ≡ accepted l
     go true true k = k
     go true false k = let z : _≡_ {A = ℕ} 0 1 = cc in absurd (omega arith)
     go false d k = let z : _≡_ {A = ℕ} 0 1 = cc in absurd (omega arith)

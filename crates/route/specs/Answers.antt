@@ -4,8 +4,6 @@ use mathlib.Core.List.{List}
 use mathlib.Core.Path.{_≡_}
 use Rattle.base.specs.Answer.{Answer, accepted, refused}
 use Rattle.base.specs.Refusals.{numberOf}
-use Rattle.base.specs.declared.refusal.Refusal.{Refusal}
-use Rattle.base.specs.declared.refusal.Refusal.the-variants.{RightMissing}
 use Rattle.layout.specs.Answers.{answerOfLayout}
 use Rattle.layout.specs.Layouts.{Layout}
 use Rattle.layout.specs.declared.body.LayoutAnswer.{LayoutAnswer}
@@ -22,18 +20,10 @@ abbrev pub answerOfGrant : ReadGrant → Answer routes.Grant
 answerOfGrant (grant.Value g) = accepted (record { slot = g .slot .0; last = g .last })
 answerOfGrant (grant.Refused e) = refused (numberOf e)
 
-abbrev pub whyGrant : ReadGrant → Refusal
-whyGrant (grant.Value g) = RightMissing
-whyGrant (grant.Refused e) = e
-
 abbrev pub answerOfServing : ServingAnswer → List ℕ → Answer routes.Serving
 answerOfServing (serving.Value m g s) starts =
     accepted (record { iomode = m; grant = record { slot = g .slot .0; last = g .last }; layout = record { summary = s; starts = starts } })
 answerOfServing (serving.Refused e) starts = refused (numberOf e)
-
-abbrev pub whyServing : ServingAnswer → Refusal
-whyServing (serving.Value m g s) = RightMissing
-whyServing (serving.Refused e) = e
 
 abbrev pub answerOfLocated : Located → Answer Piece
 answerOfLocated (located.At p) = accepted p

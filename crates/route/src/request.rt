@@ -8,22 +8,26 @@ use crate::rights::find_serving;
 use crate::rights::likely_slot;
 use crate::stripes::piece_length;
 use crate::stripes::stripe_of;
+use base::Fault;
 use base::Iomode;
 use base::Last;
 use base::Refusal;
 use layout::Summary;
 use segments::Table;
 ghost use mathlib.Core.Path.{_≡_};
+ghost use mathlib.Core.List.{[]};
+ghost use Rattle.base.specs.Answer.{refusalIn};
+ghost use Rattle.base.specs.Refusals.{numberOf};
 ghost use Prim.Native.Nat.{_≤_, _<_};
-ghost use Rattle.route.specs.Answers.{answerOfLocated, whyServing};
+ghost use Rattle.route.specs.Answers.{answerOfLocated, answerOfServing};
 ghost use Rattle.route.specs.Routes.{pieceAt, routed};
 
 fn why_serving(r: ServingAnswer) -> Refusal
-    ensures { λ e. ⌜ e ≡ whyServing r ⌝ }
+    ensures { λ e. ⌜ numberOf e ≡ refusalIn (answerOfServing r []) ⌝ }
 {
     match r {
         ServingAnswer::Refused(e) => e,
-        ServingAnswer::Value(_, _, _) => Refusal::RightMissing,
+        ServingAnswer::Value(_, _, _) => Refusal::Fault(Fault::BytesRunOut),
     }
 }
 
@@ -76,7 +80,7 @@ pub fn locate(t: Table, store: &[u8], write: bool, offset: u64, len: u64) -> Loc
     }
     let e = base::request_last(offset, len);
     let Last::At(_) = e else {
-        return Located::Refused(base::why_last(e));
+        return Located::Refused(Refusal::Fault(base::why_last(e)));
     };
     let known = j.read;
     let v = find_serving(write, t, store, offset, wanted, known);

@@ -1,4 +1,5 @@
 // What serves a request: the iomode, the granted segment at its first byte, and the layout body under which that is held.
+use base::Fault;
 use base::Iomode;
 use base::Refusal;
 use base::SlotNumber;
@@ -10,10 +11,12 @@ use segments::Segment;
 use segments::Segments;
 use segments::Table;
 ghost use mathlib.Core.Path.{_≡_};
+ghost use Rattle.base.specs.Answer.{refusalIn};
+ghost use Rattle.base.specs.Refusals.{numberOf};
 ghost use lib.ListN.{replicate};
 ghost use Rattle.segments.specs.Segments.{listOf, within};
 ghost use Rattle.layout.specs.Answers.{answerOfLayout};
-ghost use Rattle.route.specs.Answers.{Known, answerOfGrant, answerOfServing, whyGrant};
+ghost use Rattle.route.specs.Answers.{Known, answerOfGrant, answerOfServing};
 ghost use Rattle.route.specs.Routes.{grantAt, grantOf, layoutIn, readFromRw, served, servedBy, writeServed};
 
 // The slot of a granted segment's body, and its last byte.
@@ -86,11 +89,11 @@ fn refused(e: Refusal) -> Serving
 }
 
 fn why_grant(r: ReadGrant) -> Refusal
-    ensures { λ e. ⌜ e ≡ whyGrant r ⌝ }
+    ensures { λ e. ⌜ numberOf e ≡ refusalIn (answerOfGrant r) ⌝ }
 {
     match r {
         ReadGrant::Refused(e) => e,
-        ReadGrant::Value(_) => Refusal::RightMissing,
+        ReadGrant::Value(_) => Refusal::Fault(Fault::BytesRunOut),
     }
 }
 
@@ -121,7 +124,7 @@ fn served_by(
     let l = layout_of(store, g.slot, wanted, known);
     let a = l.answer;
     let LayoutAnswer::Value(summary) = a else {
-        return refused(layout::why_layout(a));
+        return refused(Refusal::Fault(layout::why_layout(a)));
     };
     let starts = l.starts;
     Serving {

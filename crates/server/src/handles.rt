@@ -1,17 +1,11 @@
 // The filehandles of a data server.
-use base::Refusal;
 use xdr::Cursor;
+use xdr::ReadEnd;
 use xdr::ReadPart;
 ghost use mathlib.Core.Path.{_≡_};
 ghost use Rattle.xdr.specs.Res.{endOf};
+ghost use Rattle.xdr.specs.Answers.{resOfEnd};
 ghost use Rattle.server.specs.Servers.{handlesAt};
-ghost use Rattle.server.specs.Answers.{resOfEnd, whyEnd};
-
-// The place behind what was read.
-pub enum ReadEnd {
-    Value(Cursor),
-    Refused(Refusal),
-}
 
 // Past n filehandles.
 pub fn skip_handles(s: &[u8], c: Cursor, n: u32) -> ReadEnd
@@ -28,13 +22,4 @@ pub fn skip_handles(s: &[u8], c: Cursor, n: u32) -> ReadEnd
         left -= 1;
     }
     ReadEnd::Value(d)
-}
-
-pub fn why_end(r: ReadEnd) -> Refusal
-    ensures { λ e. ⌜ e ≡ whyEnd r ⌝ }
-{
-    match r {
-        ReadEnd::Refused(e) => e,
-        ReadEnd::Value(_) => Refusal::BytesRunOut,
-    }
 }

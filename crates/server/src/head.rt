@@ -1,11 +1,13 @@
 // What a data server begins with: device id, efficiency, stateid and the number of filehandles.
-use base::Refusal;
+use base::Fault;
 use xdr::Cursor;
 use xdr::ReadPart;
 use xdr::ReadU32;
 ghost use mathlib.Core.Path.{_≡_};
+ghost use Rattle.xdr.specs.Res.{faultIn};
+ghost use Rattle.base.specs.Refusals.{faultNumber};
 ghost use Rattle.server.specs.Servers.{headAt};
-ghost use Rattle.server.specs.Answers.{resOfHead, whyHead};
+ghost use Rattle.server.specs.Answers.{resOfHead};
 
 // Device id and stateid by their places.
 pub struct ServerHead {
@@ -17,7 +19,7 @@ pub struct ServerHead {
 
 pub enum ReadHead {
     Value(ServerHead, Cursor),
-    Refused(Refusal),
+    Refused(Fault),
 }
 
 pub(crate) fn read_head(s: &[u8], c: Cursor) -> ReadHead
@@ -50,11 +52,11 @@ pub(crate) fn read_head(s: &[u8], c: Cursor) -> ReadHead
     )
 }
 
-pub(crate) fn why_head(r: ReadHead) -> Refusal
-    ensures { λ e. ⌜ e ≡ whyHead r ⌝ }
+pub(crate) fn why_head(r: ReadHead) -> Fault
+    ensures { λ e. ⌜ faultNumber e ≡ faultIn (resOfHead r) ⌝ }
 {
     match r {
         ReadHead::Refused(e) => e,
-        ReadHead::Value(_, _) => Refusal::BytesRunOut,
+        ReadHead::Value(_, _) => Fault::BytesRunOut,
     }
 }

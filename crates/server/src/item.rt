@@ -1,17 +1,18 @@
 // A data server as one item.
-use crate::handles::ReadEnd;
 use crate::handles::skip_handles;
-use crate::handles::why_end;
 use crate::head::ReadHead;
 use crate::head::read_head;
 use crate::head::why_head;
-use base::Refusal;
+use base::Fault;
 use xdr::Cursor;
 use xdr::Part;
+use xdr::ReadEnd;
 use xdr::ReadPart;
 ghost use mathlib.Core.Path.{_≡_};
+ghost use Rattle.xdr.specs.Res.{faultIn};
+ghost use Rattle.base.specs.Refusals.{faultNumber};
 ghost use Rattle.server.specs.Servers.{serverAt};
-ghost use Rattle.server.specs.Answers.{resOfServer, whyServer};
+ghost use Rattle.server.specs.Answers.{resOfServer};
 
 // Device id, stateid and the first filehandle's length by their places.
 pub struct Server {
@@ -26,7 +27,7 @@ pub struct Server {
 
 pub enum ReadServer {
     Value(Server, Cursor),
-    Refused(Refusal),
+    Refused(Fault),
 }
 
 pub fn read_server(s: &[u8], c: Cursor) -> ReadServer
@@ -38,7 +39,7 @@ pub fn read_server(s: &[u8], c: Cursor) -> ReadServer
     };
     let n = skip_handles(s, c1, head.handles);
     let ReadEnd::Value(c2) = n else {
-        return ReadServer::Refused(why_end(n));
+        return ReadServer::Refused(xdr::why_end(n));
     };
     let u = xdr::read_opaque(s, c2, 0, 64);
     let ReadPart::Value(user, c3) = u else {
@@ -62,11 +63,11 @@ pub fn read_server(s: &[u8], c: Cursor) -> ReadServer
     )
 }
 
-pub fn why_server(r: ReadServer) -> Refusal
-    ensures { λ e. ⌜ e ≡ whyServer r ⌝ }
+pub fn why_server(r: ReadServer) -> Fault
+    ensures { λ e. ⌜ faultNumber e ≡ faultIn (resOfServer r) ⌝ }
 {
     match r {
         ReadServer::Refused(e) => e,
-        ReadServer::Value(_, _) => Refusal::BytesRunOut,
+        ReadServer::Value(_, _) => Fault::BytesRunOut,
     }
 }

@@ -3,9 +3,7 @@ mod handles;
 mod head;
 mod item;
 
-pub use handles::ReadEnd;
 pub use handles::skip_handles;
-pub use handles::why_end;
 pub use item::ReadServer;
 pub use item::Server;
 pub use item::read_server;

@@ -17,10 +17,10 @@ use Rattle.reference.specs.Sound.{sound}
 unfoldable pub namedJudged : Table → List ℕ → List Bool
 namedJudged t store = pick (sound t store) (namedSlots t) (replicate 8 false)
 
--- the layout body in a slot, where it is one of the first n and a segment names it
+-- the layout body in a slot, where it is one of the first n and a segment names it; any other is as one of no bytes: 1
 unfoldable pub layoutNamed : Table → List ℕ → ℕ → ℕ → Answer Layout
-layoutNamed t store slot n = pick (ltb slot n && isNamed t slot) (layoutBody (bodyIn (slotAt store slot))) (refused 20)
+layoutNamed t store slot n = pick (ltb slot n && isNamed t slot) (layoutBody (bodyIn (slotAt store slot))) (refused 1)
 
--- "20: table or shelf is unsound", and where no such slot is named
+-- the same of any table, none of whose bodies is read where it is unsound
 unfoldable pub layoutJudged : Table → List ℕ → ℕ → Answer Layout
-layoutJudged t store slot = pick (sound t store) (layoutNamed t store slot 8) (refused 20)
+layoutJudged t store slot = pick (sound t store) (layoutNamed t store slot 8) (refused 1)

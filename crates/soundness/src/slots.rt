@@ -1,5 +1,5 @@
 // Whether the slots are sound: a named one holds an accepted body, laid out as said; any other is zero.
-use base::Refusal;
+use base::Fault;
 use base::SlotNumber;
 use layout::LayoutAnswer;
 use layout::LayoutRead;
@@ -18,7 +18,7 @@ ghost use Rattle.reference.specs.Sound.{isAccepted, slotSound, slotsSound};
 ghost use Rattle.soundness.specs.Judgements.{layoutNamed};
 
 // `read` is what the layout body in one slot reads as, the one that was asked for: a lookup would read it again. Where
-// nothing was read, it is refused as unsound, and its starts are 0. `named` says of each slot whether a segment names
+// nothing was read, it is refused as no bytes are, and its starts are 0. `named` says of each slot whether a segment names
 // it; of an unsound table none.
 pub struct Judged {
     pub read: LayoutRead,
@@ -28,12 +28,12 @@ pub struct Judged {
 
 pub(crate) fn unsound() -> Judged
     ensures { λ r. ⌜ (r .sound ≡ false)
-        × (answerOfLayout (r .read .answer) (r .read .starts) ≡ refused 20)
+        × (answerOfLayout (r .read .answer) (r .read .starts) ≡ refused 1)
         × (r .read .starts ≡ replicate 128 0)
         × (r .named ≡ replicate 8 false) ⌝ }
 {
     let read = LayoutRead {
-        answer: LayoutAnswer::Refused(Refusal::Unsound),
+        answer: LayoutAnswer::Refused(Fault::BytesRunOut),
         starts: [0u16; 128],
     };
     Judged {

@@ -5,8 +5,8 @@ use netaddr::Address;
 use netaddr::NetidClass;
 use print::say;
 use print::say_between;
+use print::say_fault;
 use print::say_fields;
-use print::say_refused;
 
 fn is_of_six(class: NetidClass) -> bool {
     match class {
@@ -77,7 +77,7 @@ pub fn say_device(payload: &[u8]) {
     let versions = got.versions;
     say(b"device");
     match answer {
-        DeviceAnswer::Refused(e) => say_refused(e),
+        DeviceAnswer::Refused(e) => say_fault(e),
         DeviceAnswer::Counts(m, k) => {
             say(b" addresses=");
             say_addresses(addresses, m);

@@ -3,8 +3,8 @@ use crate::layout_case::say_summary;
 use layout4::Layout4;
 use layout4::Layout4Answer;
 use print::say;
+use print::say_fault;
 use print::say_fields;
-use print::say_refused;
 
 // What stands before the body.
 fn say_frame(l: Layout4) {
@@ -21,7 +21,7 @@ pub fn say_layout4(payload: &[u8]) {
     let starts = got.starts;
     say(b"layout4");
     match answer {
-        Layout4Answer::Refused(e) => say_refused(e),
+        Layout4Answer::Refused(e) => say_fault(e),
         Layout4Answer::Value(l, s) => {
             say_frame(l);
             say_summary(s, starts);

@@ -3,9 +3,9 @@ use layout::LayoutAnswer;
 use layout::Summary;
 use print::say;
 use print::say_between;
+use print::say_fault;
 use print::say_fields;
 use print::say_number;
-use print::say_refused;
 
 fn wide(x: u16) -> u64 {
     x as u64
@@ -39,7 +39,7 @@ pub fn say_layout(payload: &[u8]) {
     let starts = got.starts;
     say(b"layout-body");
     match answer {
-        LayoutAnswer::Refused(e) => say_refused(e),
+        LayoutAnswer::Refused(e) => say_fault(e),
         LayoutAnswer::Value(s) => say_summary(s, starts),
     }
 }

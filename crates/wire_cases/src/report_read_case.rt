@@ -2,10 +2,10 @@
 use print::say;
 use print::say_between;
 use print::say_device_id;
+use print::say_fault;
 use print::say_field;
 use print::say_fields;
 use print::say_hex;
-use print::say_refused;
 use report::ErrorItem;
 use report::ReadError;
 use report::ReportAnswer;
@@ -63,7 +63,7 @@ pub fn say_report_read(payload: &[u8]) {
     let errors_at = got.errors_at;
     say(b"report-read");
     match answer {
-        ReportAnswer::Refused(e) => say_refused(e),
+        ReportAnswer::Refused(e) => say_fault(e),
         ReportAnswer::Count(count) => {
             say_field(b" reports=", count as u64);
             say_reports(payload, heads, errors_at, count);

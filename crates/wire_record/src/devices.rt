@@ -129,7 +129,7 @@ pub fn device_result(d: DeviceRead) -> DeviceResult
     let a = d.answer;
     match a {
         DeviceAnswer::Refused(e) => DeviceResult {
-            refusal: base::number(e),
+            refusal: base::fault_number(e),
             address_count: 0,
             version_count: 0,
             addresses: [NO_ADDRESS; 8],

@@ -18,7 +18,7 @@ pub fn error_result(x: ReadError) -> ErrorResult
 {
     match x {
         ReadError::Refused(e) => ErrorResult {
-            refusal: base::number(e),
+            refusal: base::fault_number(e),
             device: 0,
             status: 0,
             operation: 0,

@@ -82,7 +82,7 @@ pub fn layout_result(l: LayoutRead) -> LayoutResult
     let a = l.answer;
     match a {
         LayoutAnswer::Refused(e) => LayoutResult {
-            refusal: base::number(e),
+            refusal: base::fault_number(e),
             summary: NO_SUMMARY,
             starts: [0u16; 128],
         },
@@ -104,7 +104,7 @@ pub fn layout4_result(l: Layout4Read) -> Layout4Result
     let a = l.answer;
     match a {
         Layout4Answer::Refused(e) => Layout4Result {
-            refusal: base::number(e),
+            refusal: base::fault_number(e),
             iomode: 0,
             offset: 0,
             length: 0,

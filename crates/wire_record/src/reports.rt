@@ -29,7 +29,7 @@ pub fn reports_result(x: ReportsRead) -> ReportsResult
     let a = x.answer;
     match a {
         ReportAnswer::Refused(e) => ReportsResult {
-            refusal: base::number(e),
+            refusal: base::fault_number(e),
             count: 0,
             heads: [NO_HEAD; 8],
             errors_at: [0usize; 8],

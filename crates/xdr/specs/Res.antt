@@ -33,3 +33,8 @@ asItem (refused n) at = no n
 unfoldable pub endOf : {A : Type 0} → Res A → Res (Unit {0})
 endOf (ok a at) = ok tt at
 endOf (no n) = no n
+
+-- the number of the fault; of an item with a value, the first of the table
+abbrev pub faultIn : {A : Type 0} → Res A → ℕ
+faultIn (ok a at) = 1
+faultIn (no n) = n

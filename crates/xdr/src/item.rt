@@ -4,22 +4,24 @@ use crate::Part;
 use crate::number::ReadU32;
 use crate::number::read_u32;
 use crate::number::why_u32;
-use base::Refusal;
+use base::Fault;
 ghost use mathlib.Core.Path.{_≡_};
+ghost use Rattle.xdr.specs.Res.{faultIn};
+ghost use Rattle.base.specs.Refusals.{faultNumber};
 ghost use Prim.Native.Nat.{_+_, _≤_};
 ghost use lib.ListN.{length};
 ghost use Rattle.numbers.specs.Numbers.{bytesFrom};
 ghost use Rattle.xdr.specs.Items.{allZero, boolAt, bytesAt, countAt, opaqueAt};
-ghost use Rattle.xdr.specs.Answers.{resOfBool, resOfPart, resOfU32, whyBool, whyPart};
+ghost use Rattle.xdr.specs.Answers.{resOfBool, resOfPart, resOfU32};
 
 pub enum ReadBool {
     Value(bool, Cursor),
-    Refused(Refusal),
+    Refused(Fault),
 }
 
 pub enum ReadPart {
     Value(Part, Cursor),
-    Refused(Refusal),
+    Refused(Fault),
 }
 
 pub fn read_bool(s: &[u8], c: Cursor) -> ReadBool
@@ -30,7 +32,7 @@ pub fn read_bool(s: &[u8], c: Cursor) -> ReadBool
         return ReadBool::Refused(why_u32(r));
     };
     if 1 < n {
-        return ReadBool::Refused(Refusal::BooleanInvalid);
+        return ReadBool::Refused(Fault::BooleanInvalid);
     }
     ReadBool::Value(n == 1, d)
 }
@@ -44,10 +46,10 @@ pub fn read_count(s: &[u8], c: Cursor, lo: u32, hi: u32) -> ReadU32
         return r;
     };
     if n < lo {
-        return ReadU32::Refused(Refusal::OutsideLimit);
+        return ReadU32::Refused(Fault::OutsideLimit);
     }
     if hi < n {
-        return ReadU32::Refused(Refusal::OutsideLimit);
+        return ReadU32::Refused(Fault::OutsideLimit);
     }
     r
 }
@@ -73,17 +75,17 @@ pub fn read_bytes(s: &[u8], c: Cursor, n: usize) -> ReadPart
     let at = c.at;
     let pad = (4 - n % 4) % 4;
     if s.len() < at {
-        return ReadPart::Refused(Refusal::BytesRunOut);
+        return ReadPart::Refused(Fault::BytesRunOut);
     }
     if s.len() - at < n {
-        return ReadPart::Refused(Refusal::BytesRunOut);
+        return ReadPart::Refused(Fault::BytesRunOut);
     }
     let end = at + n;
     if s.len() - end < pad {
-        return ReadPart::Refused(Refusal::BytesRunOut);
+        return ReadPart::Refused(Fault::BytesRunOut);
     }
     if !zeros(s, end, pad) {
-        return ReadPart::Refused(Refusal::PaddingNotZero);
+        return ReadPart::Refused(Fault::PaddingNotZero);
     }
     ReadPart::Value(Part { start: at, len: n }, Cursor { at: end + pad })
 }
@@ -99,20 +101,20 @@ pub fn read_opaque(s: &[u8], c: Cursor, lo: u32, hi: u32) -> ReadPart
     read_bytes(s, d, n as usize)
 }
 
-pub fn why_bool(r: ReadBool) -> Refusal
-    ensures { λ e. ⌜ e ≡ whyBool r ⌝ }
+pub fn why_bool(r: ReadBool) -> Fault
+    ensures { λ e. ⌜ faultNumber e ≡ faultIn (resOfBool r) ⌝ }
 {
     match r {
         ReadBool::Refused(e) => e,
-        ReadBool::Value(_, _) => Refusal::BytesRunOut,
+        ReadBool::Value(_, _) => Fault::BytesRunOut,
     }
 }
 
-pub fn why_part(r: ReadPart) -> Refusal
-    ensures { λ e. ⌜ e ≡ whyPart r ⌝ }
+pub fn why_part(r: ReadPart) -> Fault
+    ensures { λ e. ⌜ faultNumber e ≡ faultIn (resOfPart r) ⌝ }
 {
     match r {
         ReadPart::Refused(e) => e,
-        ReadPart::Value(_, _) => Refusal::BytesRunOut,
+        ReadPart::Value(_, _) => Fault::BytesRunOut,
     }
 }

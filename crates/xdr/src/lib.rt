@@ -1,7 +1,10 @@
 // XDR items, read off a slice at a cursor.
+mod end;
 mod item;
 mod number;
 
+pub use end::ReadEnd;
+pub use end::why_end;
 pub use item::ReadBool;
 pub use item::ReadPart;
 pub use item::read_bool;

@@ -1,18 +1,20 @@
 // Numbers of 4 and 8 bytes.
 use crate::Cursor;
-use base::Refusal;
+use base::Fault;
 ghost use mathlib.Core.Path.{_≡_};
+ghost use Rattle.xdr.specs.Res.{faultIn};
+ghost use Rattle.base.specs.Refusals.{faultNumber};
 ghost use Rattle.xdr.specs.Items.{numAt};
-ghost use Rattle.xdr.specs.Answers.{resOfU32, resOfU64, whyU32, whyU64};
+ghost use Rattle.xdr.specs.Answers.{resOfU32, resOfU64};
 
 pub enum ReadU32 {
     Value(u32, Cursor),
-    Refused(Refusal),
+    Refused(Fault),
 }
 
 pub enum ReadU64 {
     Value(u64, Cursor),
-    Refused(Refusal),
+    Refused(Fault),
 }
 
 pub fn read_u32(s: &[u8], c: Cursor) -> ReadU32
@@ -20,10 +22,10 @@ pub fn read_u32(s: &[u8], c: Cursor) -> ReadU32
 {
     let at = c.at;
     if s.len() < at {
-        return ReadU32::Refused(Refusal::BytesRunOut);
+        return ReadU32::Refused(Fault::BytesRunOut);
     }
     if s.len() - at < 4 {
-        return ReadU32::Refused(Refusal::BytesRunOut);
+        return ReadU32::Refused(Fault::BytesRunOut);
     }
     ReadU32::Value(numbers::be4(s, at), Cursor { at: at + 4 })
 }
@@ -33,28 +35,28 @@ pub fn read_u64(s: &[u8], c: Cursor) -> ReadU64
 {
     let at = c.at;
     if s.len() < at {
-        return ReadU64::Refused(Refusal::BytesRunOut);
+        return ReadU64::Refused(Fault::BytesRunOut);
     }
     if s.len() - at < 8 {
-        return ReadU64::Refused(Refusal::BytesRunOut);
+        return ReadU64::Refused(Fault::BytesRunOut);
     }
     ReadU64::Value(numbers::be8(s, at), Cursor { at: at + 8 })
 }
 
-pub fn why_u32(r: ReadU32) -> Refusal
-    ensures { λ e. ⌜ e ≡ whyU32 r ⌝ }
+pub fn why_u32(r: ReadU32) -> Fault
+    ensures { λ e. ⌜ faultNumber e ≡ faultIn (resOfU32 r) ⌝ }
 {
     match r {
         ReadU32::Refused(e) => e,
-        ReadU32::Value(_, _) => Refusal::BytesRunOut,
+        ReadU32::Value(_, _) => Fault::BytesRunOut,
     }
 }
 
-pub fn why_u64(r: ReadU64) -> Refusal
-    ensures { λ e. ⌜ e ≡ whyU64 r ⌝ }
+pub fn why_u64(r: ReadU64) -> Fault
+    ensures { λ e. ⌜ faultNumber e ≡ faultIn (resOfU64 r) ⌝ }
 {
     match r {
         ReadU64::Refused(e) => e,
-        ReadU64::Value(_, _) => Refusal::BytesRunOut,
+        ReadU64::Value(_, _) => Fault::BytesRunOut,
     }
 }

@@ -1,16 +1,17 @@
 -- `binding::bind_body::bind` meets its contract: both bodies, then 16, 8, and the server.
-use Rattle.base.specs.Answer.{given, pick, refused}
+use Rattle.base.specs.Answer.{given, pick}
 use Rattle.binding.specs.Bindings.{boundTo, must}
 use Rattle.device.proofs.AcceptedDevice.{versions-read}
-use Rattle.device.specs.Answers.{deviceOf, whyDevice}
+use Rattle.device.specs.Answers.{deviceOf}
 use Rattle.device.specs.declared.body.DeviceAnswer.{DeviceAnswer}
 use Rattle.layout.proofs.LayoutLaws.{accepted-limits}
-use Rattle.layout.specs.Answers.{answerOfLayout, whyLayout}
+use Rattle.layout.specs.Answers.{answerOfLayout}
 use Rattle.layout.specs.declared.body.LayoutAnswer.{LayoutAnswer}
-use Rattle.xdr.proofs.Steps.{came, handed}
+use Rattle.xdr.proofs.Steps.{came, handed-answer-from}
 use borrow.Author.Needs.{needs}
 use borrow.Author.Tests.{le-leb, le-ltb, lt-leb, lt-ltb}
 use denote.Ref.{now}
+use mathlib.Core.List.{[]}
 use mathlib.Core.Path.{refl}
 use native.Mathlib.Omega.{arith}
 use Rattle.binding.proofs.bind_body.bind.Statement.{statement}
@@ -30,7 +31,7 @@ why-layout-requires c κs = search needs
 
 returns : tie.Need-returns
 unfolding boundTo given
-returns c = rw (handed (λ (x : LayoutAnswer). answerOfLayout x (c .before .before .before .read-layout .result .starts)) whyLayout refused (c .before .before .before .read-layout .ensures .0) (c .before .enum-told .given .1) (c .why-layout .ensures) refl)
+returns c = rw (handed-answer-from (λ (x : LayoutAnswer). answerOfLayout x []) (λ (x : LayoutAnswer). answerOfLayout x (c .before .before .before .read-layout .result .starts)) (c .before .before .before .read-layout .ensures .0) (c .before .enum-told .given .1) (c .why-layout .ensures) refl refl)
 
 read-device-requires : tie.Need-read-device-requires
 read-device-requires c κs = search needs
@@ -46,7 +47,7 @@ why-device-requires c κs = search needs
 
 returns-2 : tie.Need-returns-2
 unfolding boundTo given
-returns-2 c = rw (came (λ (x : LayoutAnswer). answerOfLayout x (c .before .before .before .before .before .before .before .read-layout .result .starts)) (c .before .before .before .before .before .before .before .read-layout .ensures .0) (c .before .before .before .before .before .a .given .1), handed (λ (x : DeviceAnswer). deviceOf x (c .before .before .before .read-device .result .addresses) (c .before .before .before .read-device .result .versions)) whyDevice refused (c .before .before .before .read-device .ensures .0) (c .before .enum-told2 .given .1) (c .why-device .ensures) refl)
+returns-2 c = rw (came (λ (x : LayoutAnswer). answerOfLayout x (c .before .before .before .before .before .before .before .read-layout .result .starts)) (c .before .before .before .before .before .before .before .read-layout .ensures .0) (c .before .before .before .before .before .a .given .1), handed-answer-from (λ (x : DeviceAnswer). deviceOf x [] []) (λ (x : DeviceAnswer). deviceOf x (c .before .before .before .read-device .result .addresses) (c .before .before .before .read-device .result .versions)) (c .before .before .before .read-device .ensures .0) (c .before .enum-told2 .given .1) (c .why-device .ensures) refl refl)
 
 returns-3 : tie.Need-returns-3
 unfolding boundTo given must pick

@@ -1,9 +1,8 @@
 -- `binding::choice::read_handle` meets its contract: past the others, then the filehandle.
 use Rattle.binding.specs.Bindings.{handleAt}
 use Rattle.xdr.proofs.EndLaws.{end-refused, end-then}
-use Rattle.server.specs.Answers.{resOfEnd, whyEnd}
+use Rattle.xdr.specs.Answers.{resOfEnd}
 use Rattle.xdr.proofs.Steps.{came, handed}
-use Rattle.xdr.specs.Res.{no}
 use borrow.Author.Needs.{needs}
 use mathlib.Core.Path.{refl, sym, _∙_}
 use Rattle.binding.proofs.choice.read_handle.Statement.{statement}
@@ -23,7 +22,7 @@ why-end-requires c κs = search needs
 
 returns : tie.Need-returns
 unfolding handleAt
-returns c = sym (end-refused _ _ _ (handed resOfEnd whyEnd no (c .before .before .before .skip-handles .ensures) (c .before .enum-told .given .1) (c .why-end .ensures) refl))
+returns c = sym (end-refused _ _ _ (handed resOfEnd (c .before .before .before .skip-handles .ensures) (c .before .enum-told .given .1) (c .why-end .ensures) refl))
 
 read-opaque-requires : tie.Need-read-opaque-requires
 read-opaque-requires c κs = search needs

@@ -2,8 +2,7 @@
 use Rattle.base.specs.Answer.{given, pick}
 use Rattle.binding.specs.Bindings.{bound, entryBound, must, valueOf}
 use Rattle.xdr.proofs.Steps.{came, handed}
-use Rattle.xdr.specs.Answers.{resOfPart, whyPart}
-use Rattle.xdr.specs.Res.{no}
+use Rattle.xdr.specs.Answers.{resOfPart}
 use borrow.Author.Needs.{needs}
 use borrow.Author.Tests.{not-false, not-true}
 use mathlib.Core.Path.{refl, sym, _∙_}
@@ -31,7 +30,7 @@ why-part-requires c κs = search needs
 
 returns-2 : tie.Need-returns-2
 unfolding entryBound must pick given valueOf
-returns-2 c = rw (sym (c .before .before .before .before .before .stateid-fits .ensures) ∙ not-false _ (c .before .before .before .before .if1 .left), handed resOfPart whyPart no (c .before .before .before .read-handle .ensures) (c .before .enum-told .given .1) (c .why-part .ensures) refl)
+returns-2 c = rw (sym (c .before .before .before .before .before .stateid-fits .ensures) ∙ not-false _ (c .before .before .before .before .if1 .left), handed resOfPart (c .before .before .before .read-handle .ensures) (c .before .enum-told .given .1) (c .why-part .ensures) refl)
 
 returns-3 : tie.Need-returns-3
 unfolding entryBound must pick given valueOf bound

@@ -1,12 +1,11 @@
 -- `binding::entry::bind_server` meets its contract: the server, 13, the choice, then the entry.
-use Rattle.base.specs.Answer.{given, pick, refused}
+use Rattle.base.specs.Answer.{given, pick}
 use Rattle.binding.proofs.BindingLaws.{chosen-below}
-use Rattle.binding.specs.Answers.{answerOfChoice, whyChoice}
+use Rattle.binding.specs.Answers.{answerOfChoice}
 use Rattle.binding.specs.Bindings.{must, serverBound, valueOf}
 use Rattle.server.proofs.ServerLaws.{server-read}
-use Rattle.server.specs.Answers.{resOfServer, whyServer}
-use Rattle.xdr.proofs.Steps.{came, handed}
-use Rattle.xdr.specs.Res.{no}
+use Rattle.server.specs.Answers.{resOfServer}
+use Rattle.xdr.proofs.Steps.{came, handed, handed-answer}
 use borrow.Author.Needs.{needs}
 use borrow.Author.Tests.{not-false, not-true}
 use denote.Ref.{now}
@@ -29,7 +28,7 @@ why-server-requires c κs = search needs
 
 returns : tie.Need-returns
 unfolding serverBound given valueOf
-returns c = rw (handed resOfServer whyServer no (c .before .before .before .read-server .ensures) (c .before .enum-told .given .1) (c .why-server .ensures) refl)
+returns c = rw (handed resOfServer (c .before .before .before .read-server .ensures) (c .before .enum-told .given .1) (c .why-server .ensures) refl)
 
 server-matches-requires : tie.Need-server-matches-requires
 server-matches-requires c κs = let v = server-read (now (c .before .before .before .before .before .args .s)) (c .before .before .before .before .before .args .start) _ _ (came resOfServer (c .before .before .before .read-server .ensures) (c .before .r .given .1)) in omega (arith, v .device, v .inside)
@@ -52,7 +51,7 @@ why-choice-requires c κs = search needs
 
 returns-3 : tie.Need-returns-3
 unfolding serverBound given valueOf must pick
-returns-3 c = rw ((came resOfServer (c .before .before .before .before .before .before .before .before .before .read-server .ensures) (c .before .before .before .before .before .before .before .r .given .1)), sym (c .before .before .before .before .before .server-matches .ensures) ∙ not-false _ (c .before .before .before .before .if1 .left), handed answerOfChoice whyChoice refused (c .before .before .before .choose .ensures) (c .before .enum-told2 .given .1) (c .why-choice .ensures) refl)
+returns-3 c = rw ((came resOfServer (c .before .before .before .before .before .before .before .before .before .read-server .ensures) (c .before .before .before .before .before .before .before .r .given .1)), sym (c .before .before .before .before .before .server-matches .ensures) ∙ not-false _ (c .before .before .before .before .if1 .left), handed-answer answerOfChoice (c .before .before .before .choose .ensures) (c .before .enum-told2 .given .1) (c .why-choice .ensures) refl)
 
 cast-v : tie.Need-cast-v
 cast-v c = search needs

@@ -4,11 +4,11 @@ use Prim.Native.Nat.{_-_, _≤_}
 use Rattle.device.proofs.PlaceLaws.{list-begun, list-refused, placed, placed-next, placed-none, placed-refused}
 use Rattle.netaddr.specs.Addresses.{addressAt, blankAddress}
 use Rattle.device.specs.Answers.{resOfList}
-use Rattle.netaddr.specs.Answers.{resOfAddress, whyAddress}
+use Rattle.netaddr.specs.Answers.{resOfAddress}
 use Rattle.xdr.proofs.Accepted.{count-read}
 use Rattle.xdr.proofs.Steps.{came, handed}
 use Rattle.xdr.specs.Answers.{resOfU32}
-use Rattle.xdr.specs.Res.{no, manyAt}
+use Rattle.xdr.specs.Res.{manyAt}
 use borrow.Author.Needs.{needs}
 use lib.ListN.{replicate}
 use mathlib.Core.Path.{_≡_, refl, sym, ap, _∙_}
@@ -63,7 +63,7 @@ returns-2 c =
     let k = c .before .before .before .before .before in
     let l = k .loop in
     let h = came resOfU32 (k .before .before .before .before .read-count .ensures) (k .before .before .count .given .1) in
-    let g = handed resOfAddress whyAddress no (c .before .before .before .read-address .ensures) (c .before .enum-told2 .given .1) (c .why-address .ensures) refl in
+    let g = handed resOfAddress (c .before .before .before .read-address .ensures) (c .before .enum-told2 .given .1) (c .why-address .ensures) refl in
     sym (list-begun addressAt blankAddress _ _ _ _ h ∙ l .inv .2 ∙ placed-refused addressAt _ (l .places) (l .i) _ _ (l .d .at) _ (omega arith) g)
 
 cast-places : tie.Need-cast-places Inv-loop μ-loop

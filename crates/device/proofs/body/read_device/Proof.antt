@@ -2,9 +2,8 @@
 -- `k2` the one after the versions.
 use Rattle.device.proofs.DeviceLaws.{addresses-refused, body-accepted, body-too-long, bytes-left-over, versions-refused}
 use Rattle.device.specs.Answers.{resOfList}
-use Rattle.xdr.proofs.Steps.{came, handed}
-use Rattle.xdr.specs.Answers.{whyU32}
-use Rattle.xdr.specs.Res.{no}
+use Rattle.xdr.proofs.Steps.{came, handed-from}
+use Rattle.xdr.specs.Answers.{resOfU32}
 use borrow.Author.Needs.{needs}
 use mathlib.Core.Path.{refl}
 use Rattle.device.proofs.body.read_device.Statement.{statement}
@@ -34,7 +33,7 @@ refuse-requires-2 c κs = search needs
 returns-2 : tie.Need-returns-2
 returns-2 c =
     let r = c .before .before .before .before .read-addresses in
-    let g = handed (resOfList (r .result .places)) whyU32 no (r .ensures) (c .before .before .enum-told .given .1) (c .before .why-u32 .ensures) refl in
+    let g = handed-from resOfU32 (resOfList (r .result .places)) (r .ensures) (c .before .before .enum-told .given .1) (c .before .why-u32 .ensures) refl refl in
     rw (addresses-refused _ (c .before .before .before .before .before .if1 .left) _ g) (c .refuse2 .ensures)
 
 read-versions-requires : tie.Need-read-versions-requires
@@ -57,7 +56,7 @@ returns-3 c =
     let k1 = c .before .before .before .before .before in
     let h = came (resOfList (k1 .before .before .before .read-addresses .result .places)) (k1 .before .before .before .read-addresses .ensures) (k1 .before .first .given .1) in
     let r = c .before .before .before .before .read-versions in
-    let g = handed (resOfList (r .result .places)) whyU32 no (r .ensures) (c .before .before .enum-told2 .given .1) (c .before .why-u322 .ensures) refl in
+    let g = handed-from resOfU32 (resOfList (r .result .places)) (r .ensures) (c .before .before .enum-told2 .given .1) (c .before .why-u322 .ensures) refl refl in
     rw (versions-refused _ (k1 .before .before .before .before .if1 .left) _ _ _ h g) (c .refuse3 .ensures)
 
 refuse-requires-4 : tie.Need-refuse-requires-4

@@ -3,12 +3,12 @@
 use Prim.Native.Nat.{_-_, _≤_}
 use Rattle.device.proofs.PlaceLaws.{list-begun, list-refused, placed, placed-next, placed-none, placed-refused}
 use Rattle.device.specs.Answers.{resOfList}
-use Rattle.device_version.specs.Answers.{resOfVersion, whyVersion}
+use Rattle.device_version.specs.Answers.{resOfVersion}
 use Rattle.device_version.specs.Versions.{versionAt, blankVersion}
 use Rattle.xdr.proofs.Accepted.{count-read}
 use Rattle.xdr.proofs.Steps.{came, handed}
 use Rattle.xdr.specs.Answers.{resOfU32}
-use Rattle.xdr.specs.Res.{no, manyAt}
+use Rattle.xdr.specs.Res.{manyAt}
 use borrow.Author.Needs.{needs}
 use lib.ListN.{replicate}
 use mathlib.Core.Path.{_≡_, refl, sym, ap, _∙_}
@@ -63,7 +63,7 @@ returns-2 c =
     let k = c .before .before .before .before .before in
     let l = k .loop in
     let h = came resOfU32 (k .before .before .before .before .read-count .ensures) (k .before .before .count .given .1) in
-    let g = handed resOfVersion whyVersion no (c .before .before .before .read-version .ensures) (c .before .enum-told2 .given .1) (c .why-version .ensures) refl in
+    let g = handed resOfVersion (c .before .before .before .read-version .ensures) (c .before .enum-told2 .given .1) (c .why-version .ensures) refl in
     sym (list-begun versionAt blankVersion _ _ _ _ h ∙ l .inv .2 ∙ placed-refused versionAt _ (l .places) (l .i) _ _ (l .d .at) _ (omega arith) g)
 
 cast-places : tie.Need-cast-places Inv-loop μ-loop

@@ -2,8 +2,8 @@
 use Rattle.base.specs.Answer.{pick}
 use Rattle.device_version.specs.Versions.{judged, versionAt}
 use Rattle.xdr.proofs.Steps.{came, handed}
-use Rattle.xdr.specs.Answers.{resOfU32, resOfBool, whyU32, whyBool}
-use Rattle.xdr.specs.Res.{no, then}
+use Rattle.xdr.specs.Answers.{resOfU32, resOfBool}
+use Rattle.xdr.specs.Res.{then}
 use borrow.Author.Needs.{needs}
 use borrow.Author.Tests.{not-true, not-false}
 use mathlib.Core.Path.{refl, sym, _∙_}
@@ -24,7 +24,7 @@ why-u32-requires c κs = search needs
 
 returns : tie.Need-returns
 unfolding versionAt then
-returns c = rw (handed resOfU32 whyU32 no (c .before .before .before .read-u32 .ensures) (c .before .enum-told .given .1) (c .why-u32 .ensures) refl)
+returns c = rw (handed resOfU32 (c .before .before .before .read-u32 .ensures) (c .before .enum-told .given .1) (c .why-u32 .ensures) refl)
 
 read-u32-requires-2 : tie.Need-read-u32-requires-2
 read-u32-requires-2 c κs = search needs
@@ -44,7 +44,7 @@ returns-2 c =
     let k1 = c .before .before .before .before in
     rw (
       came resOfU32 (k1 .before .before .before .read-u32 .ensures) (k1 .before .r1 .given .1),
-      handed resOfU32 whyU32 no (c .before .before .before .read-u322 .ensures) (c .before .enum-told2 .given .1) (c .why-u322 .ensures) refl,
+      handed resOfU32 (c .before .before .before .read-u322 .ensures) (c .before .enum-told2 .given .1) (c .why-u322 .ensures) refl,
     )
 
 read-u32-requires-3 : tie.Need-read-u32-requires-3
@@ -67,7 +67,7 @@ returns-3 c =
     rw (
       came resOfU32 (k1 .before .before .before .read-u32 .ensures) (k1 .before .r1 .given .1),
       came resOfU32 (k2 .before .before .before .read-u322 .ensures) (k2 .before .r2 .given .1),
-      handed resOfU32 whyU32 no (c .before .before .before .read-u323 .ensures) (c .before .enum-told3 .given .1) (c .why-u323 .ensures) refl,
+      handed resOfU32 (c .before .before .before .read-u323 .ensures) (c .before .enum-told3 .given .1) (c .why-u323 .ensures) refl,
     )
 
 read-u32-requires-4 : tie.Need-read-u32-requires-4
@@ -92,7 +92,7 @@ returns-4 c =
       came resOfU32 (k1 .before .before .before .read-u32 .ensures) (k1 .before .r1 .given .1),
       came resOfU32 (k2 .before .before .before .read-u322 .ensures) (k2 .before .r2 .given .1),
       came resOfU32 (k3 .before .before .before .read-u323 .ensures) (k3 .before .r3 .given .1),
-      handed resOfU32 whyU32 no (c .before .before .before .read-u324 .ensures) (c .before .enum-told4 .given .1) (c .why-u324 .ensures) refl,
+      handed resOfU32 (c .before .before .before .read-u324 .ensures) (c .before .enum-told4 .given .1) (c .why-u324 .ensures) refl,
     )
 
 read-bool-requires : tie.Need-read-bool-requires
@@ -119,7 +119,7 @@ returns-5 c =
       came resOfU32 (k2 .before .before .before .read-u322 .ensures) (k2 .before .r2 .given .1),
       came resOfU32 (k3 .before .before .before .read-u323 .ensures) (k3 .before .r3 .given .1),
       came resOfU32 (k4 .before .before .before .read-u324 .ensures) (k4 .before .r4 .given .1),
-      handed resOfBool whyBool no (c .before .before .before .read-bool .ensures) (c .before .enum-told5 .given .1) (c .why-bool .ensures) refl,
+      handed resOfBool (c .before .before .before .read-bool .ensures) (c .before .enum-told5 .given .1) (c .why-bool .ensures) refl,
     )
 
 version-fits-requires : tie.Need-version-fits-requires

@@ -1,13 +1,13 @@
 -- `events::order::own_grant` meets its contract.
-use Rattle.base.specs.Answer.{refused}
 use Rattle.events.proofs.EventLaws.{grant-read, grant-refused}
-use Rattle.layout4.specs.Answers.{answerOfLayout4, whyLayout4}
+use Rattle.layout4.specs.Answers.{answerOfLayout4}
 use Rattle.layout4.specs.declared.whole.Layout4Answer.{Layout4Answer}
 use Rattle.reference.proofs.OwnLaws.{layout4-read}
 use Rattle.reference.specs.Model.{grantOrder}
-use Rattle.xdr.proofs.Steps.{came, handed}
+use Rattle.xdr.proofs.Steps.{came, handed-answer-from}
 use borrow.Author.Needs.{needs}
 use denote.Ref.{now}
+use mathlib.Core.List.{[]}
 use mathlib.Core.Path.{refl, sym}
 use Rattle.events.proofs.order.own_grant.Statement.{statement}
 use Rattle.events.proofs.order.own_grant.Tie as tie
@@ -27,7 +27,7 @@ why-layout4-requires c κs = search needs
 returns : tie.Need-returns
 returns c =
     let starts = c .before .before .before .read-layout4 .result .starts in
-    let k = handed (λ (a : Layout4Answer). answerOfLayout4 a starts) whyLayout4 refused (c .before .before .before .read-layout4 .ensures .0) (c .before .enum-told .given .1) (c .why-layout4 .ensures) refl in
+    let k = handed-answer-from (λ (a : Layout4Answer). answerOfLayout4 a []) (λ (a : Layout4Answer). answerOfLayout4 a starts) (c .before .before .before .read-layout4 .ensures .0) (c .before .enum-told .given .1) (c .why-layout4 .ensures) refl refl in
     (sym (grant-refused (now (c .before .before .before .before .before .args .bytes)) _ k), tt)
 
 returns-2 : tie.Need-returns-2

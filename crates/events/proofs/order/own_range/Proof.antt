@@ -1,9 +1,9 @@
 -- `events::order::own_range` meets its contract: the range is judged before the iomode.
-use Rattle.base.specs.Answer.{given, refused}
-use Rattle.base.specs.Iomodes.{answerOfIomode, whyIomode}
-use Rattle.base.specs.Ranges.{answerOfLast, whyLast}
+use Rattle.base.specs.Answer.{given}
+use Rattle.base.specs.Iomodes.{answerOfIomode}
+use Rattle.base.specs.Ranges.{answerOfLast}
 use Rattle.reference.specs.Model.{rangeOrder}
-use Rattle.xdr.proofs.Steps.{came, handed}
+use Rattle.xdr.proofs.Steps.{came, handed-answer}
 use borrow.Author.Needs.{needs}
 use mathlib.Core.Path.{refl}
 use native.Mathlib.Omega.{arith}
@@ -24,7 +24,7 @@ why-last-requires c κs = search needs
 
 returns : tie.Need-returns
 unfolding rangeOrder given
-returns c = λ bytes. (rw (handed answerOfLast whyLast refused (c .before .before .before .range-last .ensures) (c .before .enum-told .given .1) (c .why-last .ensures) refl), tt)
+returns c = λ bytes. (rw (handed-answer answerOfLast (c .before .before .before .range-last .ensures) (c .before .enum-told .given .1) (c .why-last .ensures) refl), tt)
 
 iomode-of-requires : tie.Need-iomode-of-requires
 iomode-of-requires c κs = search needs
@@ -40,7 +40,7 @@ why-iomode-requires c κs = search needs
 
 returns-2 : tie.Need-returns-2
 unfolding rangeOrder given
-returns-2 c = λ bytes. (rw (came answerOfLast (c .before .before .before .before .before .before .before .range-last .ensures) (c .before .before .before .before .before .e .given .1), handed answerOfIomode whyIomode refused (c .before .before .before .iomode-of .ensures) (c .before .enum-told2 .given .1) (c .why-iomode .ensures) refl), tt)
+returns-2 c = λ bytes. (rw (came answerOfLast (c .before .before .before .before .before .before .before .range-last .ensures) (c .before .before .before .before .before .e .given .1), handed-answer answerOfIomode (c .before .before .before .iomode-of .ensures) (c .before .enum-told2 .given .1) (c .why-iomode .ensures) refl), tt)
 
 returns-3 : tie.Need-returns-3
 unfolding rangeOrder given

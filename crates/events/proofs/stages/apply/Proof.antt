@@ -3,15 +3,16 @@ use Rattle.base.proofs.AnswerLaws.{pick-true}
 use Rattle.base.specs.Answer.{Answer, refused}
 use Rattle.base.specs.declared.refusal.Refusal.the-variants.{Unsound}
 use Rattle.events.proofs.EventLaws.{is-unsound, own-accepted, own-refused, refused-left}
-use Rattle.events.specs.Answers.{answerOfOrder, eventOf, whyOrder}
+use Rattle.events.specs.Answers.{answerOfOrder, eventOf}
 use Rattle.events.specs.declared.order.ReadOrder.{ReadOrder}
 use Rattle.lookup.specs.Lookup.{namedSlots}
 use Rattle.reference.specs.Model.{Order}
 use Rattle.soundness.specs.Judgements.{namedJudged}
-use Rattle.xdr.proofs.Steps.{came, handed}
+use Rattle.xdr.proofs.Steps.{came, handed-answer-from}
 use borrow.Author.Needs.{needs}
 use borrow.Author.Tests.{not-false, not-true}
 use denote.Ref.{now}
+use mathlib.Core.List.{[]}
 use mathlib.Core.Path.{refl, sym, _∙_}
 use Rattle.events.proofs.stages.apply.Statement.{statement}
 use Rattle.events.proofs.stages.apply.Tie as tie
@@ -55,7 +56,7 @@ returns-2 c =
     let s = sym (c .before .before .before .before .before .before .before .judge .ensures .0) ∙ not-false _ (c .before .before .before .before .before .if1 .left) in
     let says : ReadOrder → Answer Order = λ r. answerOfOrder r (now (a .bytes)) in
     refused-left _ (now (a .store)) _ _ (c .refused2 .ensures)
-    ∙ sym (own-refused _ (now (a .store)) (eventOf (a .e) (now (a .bytes))) s _ (handed says whyOrder refused (c .before .before .before .before .read-own .ensures .0) (c .before .before .enum-told .given .1) (c .before .why-order .ensures) refl))
+    ∙ sym (own-refused _ (now (a .store)) (eventOf (a .e) (now (a .bytes))) s _ (handed-answer-from (λ (r : ReadOrder). answerOfOrder r []) says (c .before .before .before .before .read-own .ensures .0) (c .before .before .enum-told .given .1) (c .before .why-order .ensures) refl refl))
 
 obey-requires : tie.Need-obey-requires
 unfolding namedJudged

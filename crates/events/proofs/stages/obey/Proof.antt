@@ -2,11 +2,11 @@
 use Prim.Native.Nat.{ℕ, _+_, _-_}
 use Rattle.base.specs.Answer.{Answer, accepted, refused}
 use Rattle.events.proofs.EventLaws.{is-allowed, not-allowed, refused-left}
-use Rattle.events.specs.Answers.{answerOfRuling, deedOf, orderOf, whyRuling}
+use Rattle.events.specs.Answers.{answerOfRuling, deedOf, orderOf}
 use Rattle.events.specs.Events.{obeyed, ruled}
 use Rattle.events.specs.declared.step.Step.{Step}
 use Rattle.numbers.specs.Numbers.{bytesFrom}
-use Rattle.xdr.proofs.Steps.{came, handed}
+use Rattle.xdr.proofs.Steps.{came, handed-answer}
 use borrow.Author.Needs.{needs}
 use denote.Ref.{now}
 use mathlib.Core.Path.{_≡_, refl, sym, ap, _∙_}
@@ -50,7 +50,7 @@ returns c =
     let p = a .o .body in
     let n : p .start + p .len - p .start ≡ p .len = omega arith in
     let says : ℕ → Answer Step = λ n. ruled (deedOf (a .o .deed) (bytesFrom n (now (a .bytes)) (p .start))) (a .o .span .iomode) (a .o .span .first) (a .o .span .last) (a .t) (now (a .store)) in
-    let k = handed answerOfRuling whyRuling refused (c .before .before .before .before .rule .ensures) (c .before .before .enum-told .given .1) (c .before .why-ruling .ensures) refl in
+    let k = handed-answer answerOfRuling (c .before .before .before .before .rule .ensures) (c .before .before .enum-told .given .1) (c .before .why-ruling .ensures) refl in
     refused-left _ (now (a .store)) _ _ (c .refused .ensures) ∙ sym (not-allowed _ (now (a .store)) (orderOf (a .o) (now (a .bytes))) _ (sym (ap says n) ∙ k))
 
 sub-carry-out : tie.Need-sub-carry-out

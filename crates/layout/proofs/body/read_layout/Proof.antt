@@ -2,13 +2,13 @@
 use Rattle.layout.proofs.BodyLaws.{accepted-whole, all-read, fault-met, layout-parts, left-over, refused-whole, too-long}
 use Rattle.layout.proofs.FrontLaws.{front-read}
 use Rattle.layout.proofs.TableLaws.{mirrors-have, mirrors-read-too, mirrors-refused-too, starts-filled}
-use Rattle.layout.specs.Answers.{resOfFront, resOfTail, whyFront, whyTail}
+use Rattle.layout.specs.Answers.{resOfFront, resOfTail}
 use Rattle.layout.specs.Layouts.{layoutAt}
 use Rattle.layout.specs.Starts.{resOfStarts}
-use Rattle.server.specs.Answers.{whyEnd}
-use Rattle.server.specs.declared.handles.ReadEnd.{ReadEnd}
-use Rattle.xdr.proofs.Steps.{came, handed}
-use Rattle.xdr.specs.Res.{no, then}
+use Rattle.xdr.specs.Answers.{resOfEnd}
+use Rattle.xdr.specs.declared.end.ReadEnd.{ReadEnd}
+use Rattle.xdr.proofs.Steps.{came, handed, handed-from}
+use Rattle.xdr.specs.Res.{then}
 use borrow.Author.Needs.{needs}
 use denote.Ref.{now}
 use mathlib.Core.Path.{refl, sym, _∙_}
@@ -39,7 +39,7 @@ refused-requires-2 c κs = search needs
 
 returns-2 : tie.Need-returns-2
 unfolding layoutAt then
-returns-2 c = refused-whole _ _ _ _ (c .refused2 .ensures .0) (c .refused2 .ensures .1) (fault-met (now (c .before .before .before .before .before .before .before .args .s)) _ (c .before .before .before .before .before .if1 .left) (rw (handed resOfFront whyFront no (c .before .before .before .before .read-front .ensures) (c .before .before .enum-told .given .1) (c .before .why-front .ensures) refl)))
+returns-2 c = refused-whole _ _ _ _ (c .refused2 .ensures .0) (c .refused2 .ensures .1) (fault-met (now (c .before .before .before .before .before .before .before .args .s)) _ (c .before .before .before .before .before .if1 .left) (rw (handed resOfFront (c .before .before .before .before .read-front .ensures) (c .before .before .enum-told .given .1) (c .before .why-front .ensures) refl)))
 
 read-mirrors-requires : tie.Need-read-mirrors-requires
 read-mirrors-requires c κs =
@@ -61,7 +61,7 @@ refused-requires-3 c κs = search needs
 returns-3 : tie.Need-returns-3
 unfolding layoutAt then
 returns-3 c =
-    let m = mirrors-refused-too 0 _ _ _ (handed (λ (r : ReadEnd). resOfStarts r (c .before .before .before .before .read-mirrors .last .1 .1 .1 .1 .0)) whyEnd no (c .before .before .before .before .read-mirrors .ensures) (c .before .before .enum-told2 .given .1) (c .before .why-end .ensures) refl) in
+    let m = mirrors-refused-too 0 _ _ _ (handed-from resOfEnd (λ (r : ReadEnd). resOfStarts r (c .before .before .before .before .read-mirrors .last .1 .1 .1 .1 .0)) (c .before .before .before .before .read-mirrors .ensures) (c .before .before .enum-told2 .given .1) (c .before .why-end .ensures) refl refl) in
     refused-whole _ _ _ _ (c .refused3 .ensures .0) (c .refused3 .ensures .1) (fault-met (now (c .before .before .before .before .before .before .before .before .before .before .before .before .args .s)) _ (c .before .before .before .before .before .before .before .before .before .before .if1 .left) (rw (came resOfFront (c .before .before .before .before .before .before .before .before .before .read-front .ensures) (c .before .before .before .before .before .before .before .f .given .1), m)))
 
 read-tail-requires : tie.Need-read-tail-requires
@@ -83,7 +83,7 @@ returns-4 : tie.Need-returns-4
 unfolding layoutAt then
 returns-4 c =
     let m = mirrors-read-too 0 _ _ _ _ (came (λ (r : ReadEnd). resOfStarts r (c .before .before .before .before .before .before .before .before .read-mirrors .last .1 .1 .1 .1 .0)) (c .before .before .before .before .before .before .before .before .read-mirrors .ensures) (c .before .before .before .before .before .before .m .given .1)) in
-    refused-whole _ _ _ _ (c .refused4 .ensures .0) (c .refused4 .ensures .1) (fault-met (now (c .before .before .before .before .before .before .before .before .before .before .before .before .before .before .before .before .args .s)) _ (c .before .before .before .before .before .before .before .before .before .before .before .before .before .before .if1 .left) (rw (came resOfFront (c .before .before .before .before .before .before .before .before .before .before .before .before .before .read-front .ensures) (c .before .before .before .before .before .before .before .before .before .before .before .f .given .1), m .read, handed resOfTail whyTail no (c .before .before .before .before .read-tail .ensures) (c .before .before .enum-told3 .given .1) (c .before .why-tail .ensures) refl)))
+    refused-whole _ _ _ _ (c .refused4 .ensures .0) (c .refused4 .ensures .1) (fault-met (now (c .before .before .before .before .before .before .before .before .before .before .before .before .before .before .before .before .args .s)) _ (c .before .before .before .before .before .before .before .before .before .before .before .before .before .before .if1 .left) (rw (came resOfFront (c .before .before .before .before .before .before .before .before .before .before .before .before .before .read-front .ensures) (c .before .before .before .before .before .before .before .before .before .before .before .f .given .1), m .read, handed resOfTail (c .before .before .before .before .read-tail .ensures) (c .before .before .enum-told3 .given .1) (c .before .why-tail .ensures) refl)))
 
 refused-requires-5 : tie.Need-refused-requires-5
 refused-requires-5 c κs = search needs

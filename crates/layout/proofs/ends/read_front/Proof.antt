@@ -2,8 +2,8 @@
 use Rattle.base.specs.Answer.{pick}
 use Rattle.layout.specs.Layouts.{frontAt}
 use Rattle.xdr.proofs.Steps.{came, handed}
-use Rattle.xdr.specs.Answers.{resOfU32, resOfU64, whyU32, whyU64}
-use Rattle.xdr.specs.Res.{no, then}
+use Rattle.xdr.specs.Answers.{resOfU32, resOfU64}
+use Rattle.xdr.specs.Res.{then}
 use borrow.Author.Needs.{needs}
 use borrow.Author.Tests.{not-true, not-false}
 use mathlib.Core.Path.{refl, sym, _∙_}
@@ -24,7 +24,7 @@ why-u64-requires c κs = search needs
 
 returns : tie.Need-returns
 unfolding frontAt then pick
-returns c = rw (handed resOfU64 whyU64 no (c .before .before .before .read-u64 .ensures) (c .before .enum-told .given .1) (c .why-u64 .ensures) refl)
+returns c = rw (handed resOfU64 (c .before .before .before .read-u64 .ensures) (c .before .enum-told .given .1) (c .why-u64 .ensures) refl)
 
 read-count-requires : tie.Need-read-count-requires
 read-count-requires c κs = search needs
@@ -40,7 +40,7 @@ why-u32-requires c κs = search needs
 
 returns-2 : tie.Need-returns-2
 unfolding frontAt then pick
-returns-2 c = rw (came resOfU64 (c .before .before .before .before .before .before .before .read-u64 .ensures) (c .before .before .before .before .before .u .given .1), handed resOfU32 whyU32 no (c .before .before .before .read-count .ensures) (c .before .enum-told2 .given .1) (c .why-u32 .ensures) refl)
+returns-2 c = rw (came resOfU64 (c .before .before .before .before .before .before .before .read-u64 .ensures) (c .before .before .before .before .before .u .given .1), handed resOfU32 (c .before .before .before .read-count .ensures) (c .before .enum-told2 .given .1) (c .why-u32 .ensures) refl)
 
 read-count-requires-2 : tie.Need-read-count-requires-2
 read-count-requires-2 c κs = search needs
@@ -56,7 +56,7 @@ why-u32-requires-2 c κs = search needs
 
 returns-3 : tie.Need-returns-3
 unfolding frontAt then pick
-returns-3 c = rw (came resOfU64 (c .before .before .before .before .before .before .before .before .before .before .before .read-u64 .ensures) (c .before .before .before .before .before .before .before .before .before .u .given .1), came resOfU32 (c .before .before .before .before .before .before .before .read-count .ensures) (c .before .before .before .before .before .m .given .1), handed resOfU32 whyU32 no (c .before .before .before .read-count2 .ensures) (c .before .enum-told3 .given .1) (c .why-u322 .ensures) refl)
+returns-3 c = rw (came resOfU64 (c .before .before .before .before .before .before .before .before .before .before .before .read-u64 .ensures) (c .before .before .before .before .before .before .before .before .before .u .given .1), came resOfU32 (c .before .before .before .before .before .before .before .read-count .ensures) (c .before .before .before .before .before .m .given .1), handed resOfU32 (c .before .before .before .read-count2 .ensures) (c .before .enum-told3 .given .1) (c .why-u322 .ensures) refl)
 
 unit-fits-requires : tie.Need-unit-fits-requires
 unit-fits-requires c κs = search needs

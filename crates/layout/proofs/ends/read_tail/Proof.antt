@@ -2,8 +2,8 @@
 use Rattle.base.specs.Answer.{pick}
 use Rattle.layout.specs.Layouts.{tailAt}
 use Rattle.xdr.proofs.Steps.{came, handed}
-use Rattle.xdr.specs.Answers.{resOfU32, whyU32}
-use Rattle.xdr.specs.Res.{no, then}
+use Rattle.xdr.specs.Answers.{resOfU32}
+use Rattle.xdr.specs.Res.{then}
 use borrow.Author.Needs.{needs}
 use borrow.Author.Tests.{le-leb, lt-leb}
 use mathlib.Core.Path.{refl}
@@ -24,7 +24,7 @@ why-u32-requires c κs = search needs
 
 returns : tie.Need-returns
 unfolding tailAt then pick
-returns c = rw (handed resOfU32 whyU32 no (c .before .before .before .read-u32 .ensures) (c .before .enum-told .given .1) (c .why-u32 .ensures) refl)
+returns c = rw (handed resOfU32 (c .before .before .before .read-u32 .ensures) (c .before .enum-told .given .1) (c .why-u32 .ensures) refl)
 
 returns-2 : tie.Need-returns-2
 unfolding tailAt then pick
@@ -44,7 +44,7 @@ why-u32-requires-2 c κs = search needs
 
 returns-3 : tie.Need-returns-3
 unfolding tailAt then pick
-returns-3 c = rw (came resOfU32 (c .before .before .before .before .before .before .before .before .read-u32 .ensures) (c .before .before .before .before .before .before .f .given .1), le-leb _ _ (c .before .before .before .before .if1 .left), handed resOfU32 whyU32 no (c .before .before .before .read-u322 .ensures) (c .before .enum-told2 .given .1) (c .why-u322 .ensures) refl)
+returns-3 c = rw (came resOfU32 (c .before .before .before .before .before .before .before .before .read-u32 .ensures) (c .before .before .before .before .before .before .f .given .1), le-leb _ _ (c .before .before .before .before .if1 .left), handed resOfU32 (c .before .before .before .read-u322 .ensures) (c .before .enum-told2 .given .1) (c .why-u322 .ensures) refl)
 
 returns-4 : tie.Need-returns-4
 unfolding tailAt then pick

@@ -4,8 +4,8 @@ use Rattle.layout.specs.Layouts.{mirrorAt}
 use Rattle.layout.specs.Starts.{withServers}
 use Rattle.xdr.proofs.Accepted.{count-read}
 use Rattle.xdr.proofs.Steps.{came, handed}
-use Rattle.xdr.specs.Answers.{resOfU32, whyU32}
-use Rattle.xdr.specs.Res.{no, then}
+use Rattle.xdr.specs.Answers.{resOfU32}
+use Rattle.xdr.specs.Res.{then}
 use borrow.Author.Needs.{needs}
 use borrow.Author.Tests.{eq-eqb, ne-eqb}
 use denote.Ref.{now}
@@ -27,7 +27,7 @@ why-u32-requires c κs = search needs
 
 returns : tie.Need-returns
 unfolding mirrorAt then withServers
-returns c = rw (handed resOfU32 whyU32 no (c .before .before .before .read-count .ensures) (c .before .enum-told .given .1) (c .why-u32 .ensures) refl)
+returns c = rw (handed resOfU32 (c .before .before .before .read-count .ensures) (c .before .enum-told .given .1) (c .why-u32 .ensures) refl)
 
 returns-2 : tie.Need-returns-2
 unfolding mirrorAt then pick withServers

@@ -5,7 +5,7 @@ use Rattle.layout.proofs.StartLaws.{mirrors-next, mirrors-none, mirrors
 use Rattle.layout.specs.Layouts.{mirrorAt, mirrorsAt}
 use Rattle.layout.specs.Starts.{resOfStarts, withMirrors}
 use Rattle.server.specs.Servers.{serverAt}
-use Rattle.server.specs.declared.handles.ReadEnd.{ReadEnd}
+use Rattle.xdr.specs.declared.end.ReadEnd.{ReadEnd}
 use Rattle.xdr.proofs.Steps.{came}
 use Rattle.xdr.specs.Res.{Res, manyAt}
 use borrow.Author.Needs.{needs}

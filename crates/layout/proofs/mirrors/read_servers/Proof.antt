@@ -4,10 +4,10 @@ use Prim.Native.Nat.{_+_, _≤_}
 use Rattle.layout.proofs.StartLaws.{servers-next, servers-none, servers-refused}
 use Rattle.layout.specs.Starts.{withServers}
 use Rattle.server.proofs.ServerLaws.{server-read}
-use Rattle.server.specs.Answers.{resOfServer, whyServer}
+use Rattle.server.specs.Answers.{resOfServer}
 use Rattle.server.specs.Servers.{serverAt}
 use Rattle.xdr.proofs.Steps.{came, handed}
-use Rattle.xdr.specs.Res.{manyAt, no}
+use Rattle.xdr.specs.Res.{manyAt}
 use borrow.Author.Needs.{needs}
 use denote.Ref.{now}
 use lib.ListN.{length}
@@ -40,7 +40,7 @@ why-server-requires c κs = search needs
 returns : tie.Need-returns Inv-loop μ-loop
 returns c =
     let l = c .before .before .before .before .before .loop in
-    rw (l .inv .2, servers-refused (l .left) (l .k) (now (c .before .before .before .before .before .before .before .args .s)) (l .d .at) (l .starts) _ (omega arith) (handed resOfServer whyServer no (c .before .before .before .read-server .ensures) (c .before .enum-told .given .1) (c .why-server .ensures) refl))
+    rw (l .inv .2, servers-refused (l .left) (l .k) (now (c .before .before .before .before .before .before .before .args .s)) (l .d .at) (l .starts) _ (omega arith) (handed resOfServer (c .before .before .before .read-server .ensures) (c .before .enum-told .given .1) (c .why-server .ensures) refl))
 
 cast-starts : tie.Need-cast-starts Inv-loop μ-loop
 cast-starts c = omega (arith, c .before .before .before .before .before .loop .inv .1, c .before .before .before .before .before .before .before .pre .0)

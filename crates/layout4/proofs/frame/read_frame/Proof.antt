@@ -1,11 +1,11 @@
 -- `layout4::frame::read_frame` meets its contract, item by item.
-use Rattle.base.specs.Answer.{pick, refused}
-use Rattle.base.specs.Iomodes.{answerOfIomode, whyIomode}
-use Rattle.layout4.specs.Answers.{resOfRange, whyRange}
+use Rattle.base.specs.Answer.{pick}
+use Rattle.base.specs.Iomodes.{answerOfIomode}
+use Rattle.layout4.specs.Answers.{resOfRange}
 use Rattle.layout4.specs.Layout4s.{frameAt}
-use Rattle.xdr.proofs.Steps.{came, handed}
-use Rattle.xdr.specs.Answers.{resOfU32, whyU32}
-use Rattle.xdr.specs.Res.{asItem, no, then}
+use Rattle.xdr.proofs.Steps.{came, handed, handed-answer}
+use Rattle.xdr.specs.Answers.{resOfU32}
+use Rattle.xdr.specs.Res.{asItem, then}
 use borrow.Author.Needs.{needs}
 use borrow.Author.Tests.{eq-eqb, ne-eqb}
 use mathlib.Core.Path.{refl}
@@ -26,7 +26,7 @@ why-range-requires c κs = search needs
 
 returns : tie.Need-returns
 unfolding frameAt then asItem pick
-returns c = rw (handed resOfRange whyRange no (c .before .before .before .read-range .ensures) (c .before .enum-told .given .1) (c .why-range .ensures) refl)
+returns c = rw (handed resOfRange (c .before .before .before .read-range .ensures) (c .before .enum-told .given .1) (c .why-range .ensures) refl)
 
 read-u32-requires : tie.Need-read-u32-requires
 read-u32-requires c κs = search needs
@@ -42,7 +42,7 @@ why-u32-requires c κs = search needs
 
 returns-2 : tie.Need-returns-2
 unfolding frameAt then asItem pick
-returns-2 c = rw (came resOfRange (c .before .before .before .before .before .before .before .read-range .ensures) (c .before .before .before .before .before .a .given .1), handed resOfU32 whyU32 no (c .before .before .before .read-u32 .ensures) (c .before .enum-told2 .given .1) (c .why-u32 .ensures) refl)
+returns-2 c = rw (came resOfRange (c .before .before .before .before .before .before .before .read-range .ensures) (c .before .before .before .before .before .a .given .1), handed resOfU32 (c .before .before .before .read-u32 .ensures) (c .before .enum-told2 .given .1) (c .why-u32 .ensures) refl)
 
 grant-iomode-requires : tie.Need-grant-iomode-requires
 grant-iomode-requires c κs = search needs
@@ -58,7 +58,7 @@ why-iomode-requires c κs = search needs
 
 returns-3 : tie.Need-returns-3
 unfolding frameAt then asItem pick
-returns-3 c = rw (came resOfRange (c .before .before .before .before .before .before .before .before .before .before .before .read-range .ensures) (c .before .before .before .before .before .before .before .before .before .a .given .1), came resOfU32 (c .before .before .before .before .before .before .before .read-u32 .ensures) (c .before .before .before .before .before .m .given .1), handed answerOfIomode whyIomode refused (c .before .before .before .grant-iomode .ensures) (c .before .enum-told3 .given .1) (c .why-iomode .ensures) refl)
+returns-3 c = rw (came resOfRange (c .before .before .before .before .before .before .before .before .before .before .before .read-range .ensures) (c .before .before .before .before .before .before .before .before .before .a .given .1), came resOfU32 (c .before .before .before .before .before .before .before .read-u32 .ensures) (c .before .before .before .before .before .m .given .1), handed-answer answerOfIomode (c .before .before .before .grant-iomode .ensures) (c .before .enum-told3 .given .1) (c .why-iomode .ensures) refl)
 
 read-u32-requires-2 : tie.Need-read-u32-requires-2
 read-u32-requires-2 c κs = search needs
@@ -74,7 +74,7 @@ why-u32-requires-2 c κs = search needs
 
 returns-4 : tie.Need-returns-4
 unfolding frameAt then asItem pick
-returns-4 c = rw (came resOfRange (c .before .before .before .before .before .before .before .before .before .before .before .before .before .before .before .read-range .ensures) (c .before .before .before .before .before .before .before .before .before .before .before .before .before .a .given .1), came resOfU32 (c .before .before .before .before .before .before .before .before .before .before .before .read-u32 .ensures) (c .before .before .before .before .before .before .before .before .before .m .given .1), came answerOfIomode (c .before .before .before .before .before .before .before .grant-iomode .ensures) (c .before .before .before .before .before .g .given .1), handed resOfU32 whyU32 no (c .before .before .before .read-u322 .ensures) (c .before .enum-told4 .given .1) (c .why-u322 .ensures) refl)
+returns-4 c = rw (came resOfRange (c .before .before .before .before .before .before .before .before .before .before .before .before .before .before .before .read-range .ensures) (c .before .before .before .before .before .before .before .before .before .before .before .before .before .a .given .1), came resOfU32 (c .before .before .before .before .before .before .before .before .before .before .before .read-u32 .ensures) (c .before .before .before .before .before .before .before .before .before .m .given .1), came answerOfIomode (c .before .before .before .before .before .before .before .grant-iomode .ensures) (c .before .before .before .before .before .g .given .1), handed resOfU32 (c .before .before .before .read-u322 .ensures) (c .before .enum-told4 .given .1) (c .why-u322 .ensures) refl)
 
 returns-5 : tie.Need-returns-5
 unfolding frameAt then asItem pick
@@ -94,7 +94,7 @@ why-u32-requires-3 c κs = search needs
 
 returns-6 : tie.Need-returns-6
 unfolding frameAt then asItem pick
-returns-6 c = rw (came resOfRange (c .before .before .before .before .before .before .before .before .before .before .before .before .before .before .before .before .before .before .before .before .read-range .ensures) (c .before .before .before .before .before .before .before .before .before .before .before .before .before .before .before .before .before .before .a .given .1), came resOfU32 (c .before .before .before .before .before .before .before .before .before .before .before .before .before .before .before .before .read-u32 .ensures) (c .before .before .before .before .before .before .before .before .before .before .before .before .before .before .m .given .1), came answerOfIomode (c .before .before .before .before .before .before .before .before .before .before .before .before .grant-iomode .ensures) (c .before .before .before .before .before .before .before .before .before .before .g .given .1), came resOfU32 (c .before .before .before .before .before .before .before .before .read-u322 .ensures) (c .before .before .before .before .before .before .t .given .1), eq-eqb _ _ (c .before .before .before .before .if1 .left), handed resOfU32 whyU32 no (c .before .before .before .read-count .ensures) (c .before .enum-told5 .given .1) (c .why-u323 .ensures) refl)
+returns-6 c = rw (came resOfRange (c .before .before .before .before .before .before .before .before .before .before .before .before .before .before .before .before .before .before .before .before .read-range .ensures) (c .before .before .before .before .before .before .before .before .before .before .before .before .before .before .before .before .before .before .a .given .1), came resOfU32 (c .before .before .before .before .before .before .before .before .before .before .before .before .before .before .before .before .read-u32 .ensures) (c .before .before .before .before .before .before .before .before .before .before .before .before .before .before .m .given .1), came answerOfIomode (c .before .before .before .before .before .before .before .before .before .before .before .before .grant-iomode .ensures) (c .before .before .before .before .before .before .before .before .before .before .g .given .1), came resOfU32 (c .before .before .before .before .before .before .before .before .read-u322 .ensures) (c .before .before .before .before .before .before .t .given .1), eq-eqb _ _ (c .before .before .before .before .if1 .left), handed resOfU32 (c .before .before .before .read-count .ensures) (c .before .enum-told5 .given .1) (c .why-u323 .ensures) refl)
 
 returns-7 : tie.Need-returns-7
 unfolding frameAt then asItem pick

@@ -1,10 +1,9 @@
 -- `layout4::frame::read_range` meets its contract, item by item.
-use Rattle.base.specs.Answer.{refused}
-use Rattle.base.specs.Ranges.{answerOfLast, whyLast}
+use Rattle.base.specs.Ranges.{answerOfLast}
 use Rattle.layout4.specs.Layout4s.{rangeAt}
-use Rattle.xdr.proofs.Steps.{came, handed}
-use Rattle.xdr.specs.Answers.{resOfU64, whyU64}
-use Rattle.xdr.specs.Res.{asItem, no, then}
+use Rattle.xdr.proofs.Steps.{came, handed, handed-answer}
+use Rattle.xdr.specs.Answers.{resOfU64}
+use Rattle.xdr.specs.Res.{asItem, then}
 use borrow.Author.Needs.{needs}
 use mathlib.Core.Path.{refl}
 use Rattle.layout4.proofs.frame.read_range.Statement.{statement}
@@ -24,7 +23,7 @@ why-u64-requires c κs = search needs
 
 returns : tie.Need-returns
 unfolding rangeAt then asItem
-returns c = rw (handed resOfU64 whyU64 no (c .before .before .before .read-u64 .ensures) (c .before .enum-told .given .1) (c .why-u64 .ensures) refl)
+returns c = rw (handed resOfU64 (c .before .before .before .read-u64 .ensures) (c .before .enum-told .given .1) (c .why-u64 .ensures) refl)
 
 read-u64-requires-2 : tie.Need-read-u64-requires-2
 read-u64-requires-2 c κs = search needs
@@ -40,7 +39,7 @@ why-u64-requires-2 c κs = search needs
 
 returns-2 : tie.Need-returns-2
 unfolding rangeAt then asItem
-returns-2 c = rw (came resOfU64 (c .before .before .before .before .before .before .before .read-u64 .ensures) (c .before .before .before .before .before .o .given .1), handed resOfU64 whyU64 no (c .before .before .before .read-u642 .ensures) (c .before .enum-told2 .given .1) (c .why-u642 .ensures) refl)
+returns-2 c = rw (came resOfU64 (c .before .before .before .before .before .before .before .read-u64 .ensures) (c .before .before .before .before .before .o .given .1), handed resOfU64 (c .before .before .before .read-u642 .ensures) (c .before .enum-told2 .given .1) (c .why-u642 .ensures) refl)
 
 range-last-requires : tie.Need-range-last-requires
 range-last-requires c κs = search needs
@@ -56,7 +55,7 @@ why-last-requires c κs = search needs
 
 returns-3 : tie.Need-returns-3
 unfolding rangeAt then asItem
-returns-3 c = rw (came resOfU64 (c .before .before .before .before .before .before .before .before .before .before .before .read-u64 .ensures) (c .before .before .before .before .before .before .before .before .before .o .given .1), came resOfU64 (c .before .before .before .before .before .before .before .read-u642 .ensures) (c .before .before .before .before .before .n .given .1), handed answerOfLast whyLast refused (c .before .before .before .range-last .ensures) (c .before .enum-told3 .given .1) (c .why-last .ensures) refl)
+returns-3 c = rw (came resOfU64 (c .before .before .before .before .before .before .before .before .before .before .before .read-u64 .ensures) (c .before .before .before .before .before .before .before .before .before .o .given .1), came resOfU64 (c .before .before .before .before .before .before .before .read-u642 .ensures) (c .before .before .before .before .before .n .given .1), handed-answer answerOfLast (c .before .before .before .range-last .ensures) (c .before .enum-told3 .given .1) (c .why-last .ensures) refl)
 
 returns-4 : tie.Need-returns-4
 unfolding rangeAt then asItem

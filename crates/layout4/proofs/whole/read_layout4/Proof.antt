@@ -1,18 +1,17 @@
 -- `layout4::whole::read_layout4` meets its contract: frame, body, padding, then nothing more.
 use Prim.Native.Nat.{_+_, _-_, _≤_}
-use Rattle.base.specs.Answer.{refused}
-use Rattle.layout.specs.Answers.{answerOfLayout, whyLayout}
+use Rattle.layout.specs.Answers.{answerOfLayout}
 use Rattle.layout.specs.declared.body.LayoutAnswer.{LayoutAnswer}
 use Rattle.layout4.proofs.Layout4Laws.{accepted-whole, all-read, body-refused, body-short, frame-refused, left-over, padding-refused, refused-whole}
-use Rattle.layout4.specs.Answers.{resOfFrame, whyFrame}
-use Rattle.xdr.proofs.Steps.{came, handed}
-use Rattle.xdr.specs.Answers.{resOfPart, whyPart}
+use Rattle.layout4.specs.Answers.{resOfFrame}
+use Rattle.xdr.proofs.Steps.{came, handed, handed-answer-from}
+use Rattle.xdr.specs.Answers.{resOfPart}
 use Rattle.xdr.specs.Items.{padding}
-use Rattle.xdr.specs.Res.{no}
 use borrow.Author.Needs.{needs}
 use borrow.Author.Tests.{leb-true, not-false, not-true}
 use denote.Ref.{now}
 use lib.ListN.{length}
+use mathlib.Core.List.{[]}
 use mathlib.Core.Path.{_≡_, refl, sym, _∙_}
 use native.Mathlib.Omega.{arith}
 use Rattle.layout4.proofs.whole.read_layout4.Statement.{statement}
@@ -34,7 +33,7 @@ refused-requires : tie.Need-refused-requires
 refused-requires c κs = search needs
 
 returns : tie.Need-returns
-returns c = refused-whole _ _ _ _ (c .refused .ensures .0) (c .refused .ensures .1) (frame-refused (now (c .before .before .before .before .before .before .args .s)) _ (handed resOfFrame whyFrame no (c .before .before .before .before .read-frame .ensures) (c .before .before .enum-told .given .1) (c .before .why-frame .ensures) refl))
+returns c = refused-whole _ _ _ _ (c .refused .ensures .0) (c .refused .ensures .1) (frame-refused (now (c .before .before .before .before .before .before .args .s)) _ (handed resOfFrame (c .before .before .before .before .read-frame .ensures) (c .before .before .enum-told .given .1) (c .before .why-frame .ensures) refl))
 
 enough-requires : tie.Need-enough-requires
 enough-requires c κs = search needs
@@ -88,7 +87,7 @@ returns-3 c =
     let size = c .before .before .before .before .before .before .before .before .before .before .f .given .0 .0 .size in
     let e : c .before .before .before .before .before .before .before .before .before .before .f .given .0 .1 .0 .at + size - c .before .before .before .before .before .before .before .before .before .before .f .given .0 .1 .0 .at ≡ size = omega arith in
     let read = rw e at (c .before .before .before .before .read-layout .ensures .0) in
-    refused-whole _ _ _ _ (c .refused3 .ensures .0) (c .refused3 .ensures .1) (body-refused (now (c .before .before .before .before .before .before .before .before .before .before .before .before .before .before .args .s)) _ _ (came resOfFrame (c .before .before .before .before .before .before .before .before .before .before .before .before .read-frame .ensures) (c .before .before .before .before .before .before .before .before .before .before .f .given .1)) (sym (c .before .before .before .before .before .before .before .before .enough .ensures) ∙ not-false _ (c .before .before .before .before .before .before .before .if1 .left)) _ (handed (λ (r : LayoutAnswer). answerOfLayout r (c .before .before .before .before .read-layout .result .starts)) whyLayout refused read (c .before .before .enum-told2 .given .1) (c .before .why-layout .ensures) refl))
+    refused-whole _ _ _ _ (c .refused3 .ensures .0) (c .refused3 .ensures .1) (body-refused (now (c .before .before .before .before .before .before .before .before .before .before .before .before .before .before .args .s)) _ _ (came resOfFrame (c .before .before .before .before .before .before .before .before .before .before .before .before .read-frame .ensures) (c .before .before .before .before .before .before .before .before .before .before .f .given .1)) (sym (c .before .before .before .before .before .before .before .before .enough .ensures) ∙ not-false _ (c .before .before .before .before .before .before .before .if1 .left)) _ (handed-answer-from (λ (r : LayoutAnswer). answerOfLayout r []) (λ (r : LayoutAnswer). answerOfLayout r (c .before .before .before .before .read-layout .result .starts)) read (c .before .before .enum-told2 .given .1) (c .before .why-layout .ensures) refl refl))
 
 cast-read-bytes : tie.Need-cast-read-bytes
 cast-read-bytes c = search needs
@@ -113,7 +112,7 @@ returns-4 c =
     let size = c .before .before .before .before .before .before .before .before .before .before .before .before .before .before .before .f .given .0 .0 .size in
     let e : c .before .before .before .before .before .before .before .before .before .before .before .before .before .before .before .f .given .0 .1 .0 .at + size - c .before .before .before .before .before .before .before .before .before .before .before .before .before .before .before .f .given .0 .1 .0 .at ≡ size = omega arith in
     let read = rw e at (c .before .before .before .before .before .before .before .before .before .read-layout .ensures .0) in
-    refused-whole _ _ _ _ (c .refused4 .ensures .0) (c .refused4 .ensures .1) (padding-refused (now (c .before .before .before .before .before .before .before .before .before .before .before .before .before .before .before .before .before .before .before .args .s)) _ _ (came resOfFrame (c .before .before .before .before .before .before .before .before .before .before .before .before .before .before .before .before .before .read-frame .ensures) (c .before .before .before .before .before .before .before .before .before .before .before .before .before .before .before .f .given .1)) (sym (c .before .before .before .before .before .before .before .before .before .before .before .before .before .enough .ensures) ∙ not-false _ (c .before .before .before .before .before .before .before .before .before .before .before .before .if1 .left)) _ (came (λ (r : LayoutAnswer). answerOfLayout r (c .before .before .before .before .before .before .before .before .before .read-layout .result .starts)) read (c .before .before .before .before .before .before .before .a .given .1)) _ (handed resOfPart whyPart no (c .before .before .before .before .read-bytes .ensures) (c .before .before .enum-told3 .given .1) (c .before .why-part .ensures) refl))
+    refused-whole _ _ _ _ (c .refused4 .ensures .0) (c .refused4 .ensures .1) (padding-refused (now (c .before .before .before .before .before .before .before .before .before .before .before .before .before .before .before .before .before .before .before .args .s)) _ _ (came resOfFrame (c .before .before .before .before .before .before .before .before .before .before .before .before .before .before .before .before .before .read-frame .ensures) (c .before .before .before .before .before .before .before .before .before .before .before .before .before .before .before .f .given .1)) (sym (c .before .before .before .before .before .before .before .before .before .before .before .before .before .enough .ensures) ∙ not-false _ (c .before .before .before .before .before .before .before .before .before .before .before .before .if1 .left)) _ (came (λ (r : LayoutAnswer). answerOfLayout r (c .before .before .before .before .before .before .before .before .before .read-layout .result .starts)) read (c .before .before .before .before .before .before .before .a .given .1)) _ (handed resOfPart (c .before .before .before .before .read-bytes .ensures) (c .before .before .enum-told3 .given .1) (c .before .why-part .ensures) refl))
 
 refused-requires-5 : tie.Need-refused-requires-5
 refused-requires-5 c κs = search needs

@@ -3,8 +3,8 @@ use Prim.Native.Nat.{_+_, _-_}
 use Rattle.netaddr.proofs.AddressLaws.{part-within}
 use Rattle.netaddr.specs.Addresses.{addressAt}
 use Rattle.xdr.proofs.Steps.{came, handed}
-use Rattle.xdr.specs.Answers.{resOfPart, whyPart}
-use Rattle.xdr.specs.Res.{no, then}
+use Rattle.xdr.specs.Answers.{resOfPart}
+use Rattle.xdr.specs.Res.{then}
 use borrow.Author.Needs.{needs}
 use mathlib.Core.Path.{_≡_, refl}
 use native.Mathlib.Omega.{arith}
@@ -25,7 +25,7 @@ why-part-requires c κs = search needs
 
 returns : tie.Need-returns
 unfolding addressAt then
-returns c = rw (handed resOfPart whyPart no (c .before .before .before .read-opaque .ensures) (c .before .enum-told .given .1) (c .why-part .ensures) refl)
+returns c = rw (handed resOfPart (c .before .before .before .read-opaque .ensures) (c .before .enum-told .given .1) (c .why-part .ensures) refl)
 
 read-opaque-requires-2 : tie.Need-read-opaque-requires-2
 read-opaque-requires-2 c κs = search needs
@@ -45,7 +45,7 @@ returns-2 c =
     let k1 = c .before .before .before .before in
     rw (
       came resOfPart (k1 .before .before .before .read-opaque .ensures) (k1 .before .first .given .1),
-      handed resOfPart whyPart no (c .before .before .before .read-opaque2 .ensures) (c .before .enum-told2 .given .1) (c .why-part2 .ensures) refl,
+      handed resOfPart (c .before .before .before .read-opaque2 .ensures) (c .before .enum-told2 .given .1) (c .why-part2 .ensures) refl,
     )
 
 add-end : tie.Need-add-end

@@ -3,10 +3,10 @@
 use Prim.Native.Nat.{_+_, _-_, _≤_}
 use Rattle.base.specs.Lists.{padded}
 use Rattle.report.proofs.ReportLaws.{arrays-done, arrays-next, arrays-refused, heads-next, places-next, stateid-inside}
-use Rattle.report.specs.Answers.{arraysFrom, headFrom, headsOf, placesOf, resOfReport, whyReport}
+use Rattle.report.specs.Answers.{arraysFrom, headFrom, headsOf, placesOf, resOfReport}
 use Rattle.report.specs.Reports.{Report, reportAt}
-use Rattle.xdr.proofs.Steps.{came, handed}
-use Rattle.xdr.specs.Res.{no, manyAt}
+use Rattle.xdr.proofs.Steps.{came, handed-from}
+use Rattle.xdr.specs.Res.{manyAt}
 use borrow.Author.Needs.{needs}
 use denote.Ref.{now}
 use lib.ListN.{length, length-append}
@@ -48,7 +48,7 @@ returns : tie.Need-returns Inv-loop μ-loop
 returns c =
     let l = c .before .before .before .before .before .loop in
     let s = now (c .before .before .before .before .before .before .before .before .args .s) in
-    rw (l .inv .7, arrays-refused (l .inv .0) (c .before .before .before .before .before .before .before .before .args .n - l .i) s (l .d .at) _ (omega arith) (handed (resOfReport s) whyReport no (c .before .before .before .read-report .ensures) (c .before .enum-told .given .1) (c .why-report .ensures) refl))
+    rw (l .inv .7, arrays-refused (l .inv .0) (c .before .before .before .before .before .before .before .before .args .n - l .i) s (l .d .at) _ (omega arith) (handed-from (resOfReport []) (resOfReport s) (c .before .before .before .read-report .ensures) (c .before .enum-told .given .1) (c .why-report .ensures) refl refl))
 
 head-of-requires : tie.Need-head-of-requires Inv-loop μ-loop
 head-of-requires c κs = stateid-inside (now (c .before .before .before .before .before .before .before .before .args .s)) (c .before .before .before .before .before .loop .d .at) _ _ _ (came (resOfReport (now (c .before .before .before .before .before .before .before .before .args .s))) (c .before .before .before .read-report .ensures) (c .before .r .given .1))

@@ -1,14 +1,14 @@
 -- `report::body::read_reports` meets its contract: the count, the reports, the statistics count, the end.
 use Rattle.base.specs.Answer.{accepted, pick}
-use Rattle.base.specs.Refusals.{numberOf}
+use Rattle.base.specs.Refusals.{faultNumber}
 use Rattle.xdr.proofs.Accepted.{count-read, many-length}
 use Rattle.report.proofs.ReportLaws.{answer-accepted, answer-refused, arrays-no, arrays-ok, body-accepted}
-use Rattle.report.specs.Answers.{resOfArrays, whyEnd}
+use Rattle.report.specs.Answers.{resOfArrays}
 use Rattle.report.specs.Reports.{reportAt, reportBody}
-use Rattle.report.specs.declared.error.ReadEnd.{ReadEnd}
-use Rattle.xdr.proofs.Steps.{came, handed}
-use Rattle.xdr.specs.Answers.{resOfU32, whyU32}
-use Rattle.xdr.specs.Res.{no, then, whole}
+use Rattle.xdr.specs.declared.end.ReadEnd.{ReadEnd}
+use Rattle.xdr.proofs.Steps.{came, handed, handed-from}
+use Rattle.xdr.specs.Answers.{resOfEnd, resOfU32}
+use Rattle.xdr.specs.Res.{then, whole}
 use borrow.Author.Needs.{needs}
 use borrow.Author.Tests.{ne-eqb}
 use denote.Ref.{now}
@@ -34,8 +34,8 @@ refused-requires c κs = search needs
 returns : tie.Need-returns
 unfolding reportBody then whole
 returns c =
-    answer-refused _ (numberOf (c .before .why-u32 .result)) _ _ _
-    (rw (handed resOfU32 whyU32 no (c .before .before .before .before .read-count .ensures) (c .before .before .enum-told .given .1) (c .before .why-u32 .ensures) refl))
+    answer-refused _ (faultNumber (c .before .why-u32 .result)) _ _ _
+    (rw (handed resOfU32 (c .before .before .before .before .read-count .ensures) (c .before .before .enum-told .given .1) (c .before .why-u32 .ensures) refl))
     (c .refused .ensures)
 
 read-arrays-requires : tie.Need-read-arrays-requires
@@ -57,8 +57,8 @@ returns-2 : tie.Need-returns-2
 unfolding reportBody then whole
 returns-2 c =
     let r = c .before .before .before .before .read-arrays .result in
-    let w = numberOf (c .before .why-end .result) in
-    let n = arrays-no _ w (handed (λ (e : ReadEnd). resOfArrays e (r .heads) (r .«errors_at»)) whyEnd no (c .before .before .before .before .read-arrays .ensures) (c .before .before .enum-told2 .given .1) (c .before .why-end .ensures) refl) in
+    let w = faultNumber (c .before .why-end .result) in
+    let n = arrays-no _ w (handed-from resOfEnd (λ (e : ReadEnd). resOfArrays e (r .heads) (r .«errors_at»)) (c .before .before .before .before .read-arrays .ensures) (c .before .before .enum-told2 .given .1) (c .before .why-end .ensures) refl refl) in
     answer-refused _ w _ _ _ (rw (came resOfU32 (c .before .before .before .before .before .before .before .before .read-count .ensures) (c .before .before .before .before .before .before .rn .given .1), n)) (c .refused2 .ensures)
 
 read-count-requires-2 : tie.Need-read-count-requires-2
@@ -81,8 +81,8 @@ unfolding reportBody then whole
 returns-3 c =
     let r = c .before .before .before .before .before .before .before .before .read-arrays .result in
     let a = arrays-ok _ (r .heads) (r .«errors_at») _ (came (λ (e : ReadEnd). resOfArrays e (r .heads) (r .«errors_at»)) (c .before .before .before .before .before .before .before .before .read-arrays .ensures) (c .before .before .before .before .before .before .end .given .1)) in
-    answer-refused _ (numberOf (c .before .why-u322 .result)) _ _ _
-    (rw (came resOfU32 (c .before .before .before .before .before .before .before .before .before .before .before .before .read-count .ensures) (c .before .before .before .before .before .before .before .before .before .before .rn .given .1), a .were, handed resOfU32 whyU32 no (c .before .before .before .before .read-count2 .ensures) (c .before .before .enum-told3 .given .1) (c .before .why-u322 .ensures) refl))
+    answer-refused _ (faultNumber (c .before .why-u322 .result)) _ _ _
+    (rw (came resOfU32 (c .before .before .before .before .before .before .before .before .before .before .before .before .read-count .ensures) (c .before .before .before .before .before .before .before .before .before .before .rn .given .1), a .were, handed resOfU32 (c .before .before .before .before .read-count2 .ensures) (c .before .before .enum-told3 .given .1) (c .before .why-u322 .ensures) refl))
     (c .refused3 .ensures)
 
 refused-requires-4 : tie.Need-refused-requires-4

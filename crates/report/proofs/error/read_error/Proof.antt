@@ -2,8 +2,8 @@
 use Rattle.base.specs.Answer.{pick}
 use Rattle.report.specs.Reports.{errorAt}
 use Rattle.xdr.proofs.Steps.{came, handed}
-use Rattle.xdr.specs.Answers.{resOfPart, resOfU32, whyPart, whyU32}
-use Rattle.xdr.specs.Res.{no, then}
+use Rattle.xdr.specs.Answers.{resOfPart, resOfU32}
+use Rattle.xdr.specs.Res.{then}
 use borrow.Author.Needs.{needs}
 use borrow.Author.Tests.{not-true, not-false}
 use mathlib.Core.Path.{refl, sym, _∙_}
@@ -24,7 +24,7 @@ why-part-requires c κs = search needs
 
 returns : tie.Need-returns
 unfolding errorAt then
-returns c = rw (handed resOfPart whyPart no (c .before .before .before .read-bytes .ensures) (c .before .enum-told .given .1) (c .why-part .ensures) refl)
+returns c = rw (handed resOfPart (c .before .before .before .read-bytes .ensures) (c .before .enum-told .given .1) (c .why-part .ensures) refl)
 
 read-u32-requires : tie.Need-read-u32-requires
 read-u32-requires c κs = search needs
@@ -40,7 +40,7 @@ why-u32-requires c κs = search needs
 
 returns-2 : tie.Need-returns-2
 unfolding errorAt then
-returns-2 c = rw (came resOfPart (c .before .before .before .before .before .before .before .read-bytes .ensures) (c .before .before .before .before .before .rd .given .1), handed resOfU32 whyU32 no (c .before .before .before .read-u32 .ensures) (c .before .enum-told2 .given .1) (c .why-u32 .ensures) refl)
+returns-2 c = rw (came resOfPart (c .before .before .before .before .before .before .before .read-bytes .ensures) (c .before .before .before .before .before .rd .given .1), handed resOfU32 (c .before .before .before .read-u32 .ensures) (c .before .enum-told2 .given .1) (c .why-u32 .ensures) refl)
 
 read-u32-requires-2 : tie.Need-read-u32-requires-2
 read-u32-requires-2 c κs = search needs
@@ -56,7 +56,7 @@ why-u32-requires-2 c κs = search needs
 
 returns-3 : tie.Need-returns-3
 unfolding errorAt then
-returns-3 c = rw (came resOfPart (c .before .before .before .before .before .before .before .before .before .before .before .read-bytes .ensures) (c .before .before .before .before .before .before .before .before .before .rd .given .1), came resOfU32 (c .before .before .before .before .before .before .before .read-u32 .ensures) (c .before .before .before .before .before .rs .given .1), handed resOfU32 whyU32 no (c .before .before .before .read-u322 .ensures) (c .before .enum-told3 .given .1) (c .why-u322 .ensures) refl)
+returns-3 c = rw (came resOfPart (c .before .before .before .before .before .before .before .before .before .before .before .read-bytes .ensures) (c .before .before .before .before .before .before .before .before .before .rd .given .1), came resOfU32 (c .before .before .before .before .before .before .before .read-u32 .ensures) (c .before .before .before .before .before .rs .given .1), handed resOfU32 (c .before .before .before .read-u322 .ensures) (c .before .enum-told3 .given .1) (c .why-u322 .ensures) refl)
 
 error-fits-requires : tie.Need-error-fits-requires
 error-fits-requires c κs = search needs

@@ -1,10 +1,10 @@
 -- `report::error::read_errors` meets its contract. The loop's invariant: the errors passed are allowed, so what is left decides. The measure is
 -- how many are left.
-use Rattle.report.specs.Answers.{resOfError, whyError}
+use Rattle.report.specs.Answers.{resOfError}
 use Rattle.report.specs.Reports.{errorAt}
 use Rattle.xdr.proofs.EndLaws.{first-refuses, none-end, others-end}
 use Rattle.xdr.proofs.Steps.{came, handed}
-use Rattle.xdr.specs.Res.{no, manyAt, endOf}
+use Rattle.xdr.specs.Res.{manyAt, endOf}
 use borrow.Author.Needs.{needs}
 use denote.Ref.{now}
 use mathlib.Core.Path.{_≡_, refl, _∙_}
@@ -36,7 +36,7 @@ why-error-requires c κs = search needs
 returns : tie.Need-returns Inv-loop μ-loop
 returns c =
     let l = c .before .before .before .before .before .loop in
-    rw (l .inv, first-refuses errorAt (l .left) (now (c .before .before .before .before .before .before .before .args .s)) (l .d .at) _ (omega arith) (handed resOfError whyError no (c .before .before .before .read-error .ensures) (c .before .enum-told .given .1) (c .why-error .ensures) refl))
+    rw (l .inv, first-refuses errorAt (l .left) (now (c .before .before .before .before .before .before .before .args .s)) (l .d .at) _ (omega arith) (handed resOfError (c .before .before .before .read-error .ensures) (c .before .enum-told .given .1) (c .why-error .ensures) refl))
 
 sub-left : tie.Need-sub-left Inv-loop μ-loop
 sub-left c = search needs

@@ -1,10 +1,9 @@
 -- `report::head::read_head` meets its contract: offset and length, their range, the stateid, the error count.
-use Rattle.base.specs.Answer.{refused}
-use Rattle.base.specs.Ranges.{answerOfLast, whyLast}
+use Rattle.base.specs.Ranges.{answerOfLast}
 use Rattle.report.specs.Reports.{headAt}
-use Rattle.xdr.proofs.Steps.{came, handed}
-use Rattle.xdr.specs.Answers.{resOfPart, resOfU32, resOfU64, whyPart, whyU32, whyU64}
-use Rattle.xdr.specs.Res.{no, then, asItem}
+use Rattle.xdr.proofs.Steps.{came, handed, handed-answer}
+use Rattle.xdr.specs.Answers.{resOfPart, resOfU32, resOfU64}
+use Rattle.xdr.specs.Res.{then, asItem}
 use borrow.Author.Needs.{needs}
 use mathlib.Core.Path.{refl}
 use Rattle.report.proofs.head.read_head.Statement.{statement}
@@ -24,7 +23,7 @@ why-u64-requires c κs = search needs
 
 returns : tie.Need-returns
 unfolding headAt then
-returns c = rw (handed resOfU64 whyU64 no (c .before .before .before .read-u64 .ensures) (c .before .enum-told .given .1) (c .why-u64 .ensures) refl)
+returns c = rw (handed resOfU64 (c .before .before .before .read-u64 .ensures) (c .before .enum-told .given .1) (c .why-u64 .ensures) refl)
 
 read-u64-requires-2 : tie.Need-read-u64-requires-2
 read-u64-requires-2 c κs = search needs
@@ -40,7 +39,7 @@ why-u64-requires-2 c κs = search needs
 
 returns-2 : tie.Need-returns-2
 unfolding headAt then
-returns-2 c = rw (came resOfU64 (c .before .before .before .before .before .before .before .read-u64 .ensures) (c .before .before .before .before .before .ro .given .1), handed resOfU64 whyU64 no (c .before .before .before .read-u642 .ensures) (c .before .enum-told2 .given .1) (c .why-u642 .ensures) refl)
+returns-2 c = rw (came resOfU64 (c .before .before .before .before .before .before .before .read-u64 .ensures) (c .before .before .before .before .before .ro .given .1), handed resOfU64 (c .before .before .before .read-u642 .ensures) (c .before .enum-told2 .given .1) (c .why-u642 .ensures) refl)
 
 pair-last-requires : tie.Need-pair-last-requires
 pair-last-requires c κs = search needs
@@ -56,7 +55,7 @@ why-last-requires c κs = search needs
 
 returns-3 : tie.Need-returns-3
 unfolding headAt then asItem
-returns-3 c = rw (came resOfU64 (c .before .before .before .before .before .before .before .before .before .before .before .read-u64 .ensures) (c .before .before .before .before .before .before .before .before .before .ro .given .1), came resOfU64 (c .before .before .before .before .before .before .before .read-u642 .ensures) (c .before .before .before .before .before .rl .given .1), handed answerOfLast whyLast refused (c .before .before .before .pair-last .ensures) (c .before .enum-told4 .given .1) (c .why-last .ensures) refl)
+returns-3 c = rw (came resOfU64 (c .before .before .before .before .before .before .before .before .before .before .before .read-u64 .ensures) (c .before .before .before .before .before .before .before .before .before .ro .given .1), came resOfU64 (c .before .before .before .before .before .before .before .read-u642 .ensures) (c .before .before .before .before .before .rl .given .1), handed-answer answerOfLast (c .before .before .before .pair-last .ensures) (c .before .enum-told4 .given .1) (c .why-last .ensures) refl)
 
 read-bytes-requires : tie.Need-read-bytes-requires
 read-bytes-requires c κs = search needs
@@ -72,7 +71,7 @@ why-part-requires c κs = search needs
 
 returns-4 : tie.Need-returns-4
 unfolding headAt then asItem
-returns-4 c = rw (came resOfU64 (c .before .before .before .before .before .before .before .before .before .before .before .before .before .before .read-u64 .ensures) (c .before .before .before .before .before .before .before .before .before .before .before .before .ro .given .1), came resOfU64 (c .before .before .before .before .before .before .before .before .before .before .read-u642 .ensures) (c .before .before .before .before .before .before .before .before .rl .given .1), came answerOfLast (c .before .before .before .before .before .before .pair-last .ensures) (c .before .before .before .before .enum-told3 .given .1), handed resOfPart whyPart no (c .before .before .before .read-bytes .ensures) (c .before .enum-told5 .given .1) (c .why-part .ensures) refl)
+returns-4 c = rw (came resOfU64 (c .before .before .before .before .before .before .before .before .before .before .before .before .before .before .read-u64 .ensures) (c .before .before .before .before .before .before .before .before .before .before .before .before .ro .given .1), came resOfU64 (c .before .before .before .before .before .before .before .before .before .before .read-u642 .ensures) (c .before .before .before .before .before .before .before .before .rl .given .1), came answerOfLast (c .before .before .before .before .before .before .pair-last .ensures) (c .before .before .before .before .enum-told3 .given .1), handed resOfPart (c .before .before .before .read-bytes .ensures) (c .before .enum-told5 .given .1) (c .why-part .ensures) refl)
 
 read-count-requires : tie.Need-read-count-requires
 read-count-requires c κs = search needs
@@ -88,7 +87,7 @@ why-u32-requires c κs = search needs
 
 returns-5 : tie.Need-returns-5
 unfolding headAt then asItem
-returns-5 c = rw (came resOfU64 (c .before .before .before .before .before .before .before .before .before .before .before .before .before .before .before .before .before .before .read-u64 .ensures) (c .before .before .before .before .before .before .before .before .before .before .before .before .before .before .before .before .ro .given .1), came resOfU64 (c .before .before .before .before .before .before .before .before .before .before .before .before .before .before .read-u642 .ensures) (c .before .before .before .before .before .before .before .before .before .before .before .before .rl .given .1), came answerOfLast (c .before .before .before .before .before .before .before .before .before .before .pair-last .ensures) (c .before .before .before .before .before .before .before .before .enum-told3 .given .1), came resOfPart (c .before .before .before .before .before .before .before .read-bytes .ensures) (c .before .before .before .before .before .rs .given .1), handed resOfU32 whyU32 no (c .before .before .before .read-count .ensures) (c .before .enum-told6 .given .1) (c .why-u32 .ensures) refl)
+returns-5 c = rw (came resOfU64 (c .before .before .before .before .before .before .before .before .before .before .before .before .before .before .before .before .before .before .read-u64 .ensures) (c .before .before .before .before .before .before .before .before .before .before .before .before .before .before .before .before .ro .given .1), came resOfU64 (c .before .before .before .before .before .before .before .before .before .before .before .before .before .before .read-u642 .ensures) (c .before .before .before .before .before .before .before .before .before .before .before .before .rl .given .1), came answerOfLast (c .before .before .before .before .before .before .before .before .before .before .pair-last .ensures) (c .before .before .before .before .before .before .before .before .enum-told3 .given .1), came resOfPart (c .before .before .before .before .before .before .before .read-bytes .ensures) (c .before .before .before .before .before .rs .given .1), handed resOfU32 (c .before .before .before .read-count .ensures) (c .before .enum-told6 .given .1) (c .why-u32 .ensures) refl)
 
 returns-6 : tie.Need-returns-6
 unfolding headAt then asItem

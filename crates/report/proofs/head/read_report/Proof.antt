@@ -1,10 +1,12 @@
 -- `report::head::read_report` meets its contract: the head, then its errors.
 use Rattle.report.proofs.Runs.{report-ends}
-use Rattle.report.specs.Answers.{resOfEnd, resOfHead, whyEnd, whyHead}
-use Rattle.xdr.proofs.Steps.{came, handed}
-use Rattle.xdr.specs.Res.{no, then}
+use Rattle.report.specs.Answers.{resOfHead}
+use Rattle.xdr.proofs.Steps.{came, handed, handed-from}
+use Rattle.xdr.specs.Answers.{resOfEnd}
+use Rattle.xdr.specs.Res.{then}
 use borrow.Author.Needs.{needs}
 use denote.Ref.{now}
+use mathlib.Core.List.{[]}
 use mathlib.Core.Path.{refl}
 use Rattle.report.proofs.head.read_report.Statement.{statement}
 use Rattle.report.proofs.head.read_report.Tie as tie
@@ -25,7 +27,7 @@ returns : tie.Need-returns
 unfolding then
 returns c =
     let s = now (c .before .before .before .before .before .args .s) in
-    rw (report-ends s (c .before .before .before .before .before .args .c .at), handed (resOfHead s) whyHead no (c .before .before .before .read-head .ensures) (c .before .enum-told .given .1) (c .why-head .ensures) refl)
+    rw (report-ends s (c .before .before .before .before .before .args .c .at), handed-from (resOfHead []) (resOfHead s) (c .before .before .before .read-head .ensures) (c .before .enum-told .given .1) (c .why-head .ensures) refl refl)
 
 read-errors-requires : tie.Need-read-errors-requires
 read-errors-requires c κs = search needs
@@ -43,7 +45,7 @@ returns-2 : tie.Need-returns-2
 unfolding then
 returns-2 c =
     let s = now (c .before .before .before .before .before .before .before .before .before .args .s) in
-    rw (report-ends s (c .before .before .before .before .before .before .before .before .before .args .c .at), came (resOfHead s) (c .before .before .before .before .before .before .before .read-head .ensures) (c .before .before .before .before .before .rh .given .1), handed resOfEnd whyEnd no (c .before .before .before .read-errors .ensures) (c .before .enum-told2 .given .1) (c .why-end .ensures) refl)
+    rw (report-ends s (c .before .before .before .before .before .before .before .before .before .args .c .at), came (resOfHead s) (c .before .before .before .before .before .before .before .read-head .ensures) (c .before .before .before .before .before .rh .given .1), handed resOfEnd (c .before .before .before .read-errors .ensures) (c .before .enum-told2 .given .1) (c .why-end .ensures) refl)
 
 returns-3 : tie.Need-returns-3
 unfolding then

@@ -1,11 +1,10 @@
 -- `report_write::body::write_reports` meets its contract: every test, then the bytes.
 use Prim.Native.Nat.{_≤_, _<_}
-use Rattle.base.specs.Answer.{refused}
-use Rattle.base.specs.Refusals.{numberOf}
+use Rattle.base.specs.Refusals.{faultNumber}
 use Rattle.report_write.proofs.StoringLaws.{body-stored, fits, list-refused, many-refused, reports-allowed, reports-refused, sizes, too-short, written-accepted, written-refused}
-use Rattle.report_write.specs.Answers.{answerOfJudged, whyJudged}
+use Rattle.report_write.specs.Answers.{answerOfJudged}
 use Rattle.report_write.specs.Writing.{bodyBytes, counts, recordsFrom}
-use Rattle.xdr.proofs.Steps.{came, handed}
+use Rattle.xdr.proofs.Steps.{came, handed-answer}
 use borrow.Author.Needs.{needs}
 use denote.Ref.{now}
 use lib.ListN.{length, take}
@@ -40,8 +39,8 @@ why-judged-requires c κs = search needs
 returns-3 : tie.Need-returns-3
 returns-3 c =
     let q = sym (sym (c .before .before .before .before .before .total .ensures .0) ∙ c .before .before .before .before .if2 .left) in
-    let j = handed answerOfJudged whyJudged refused (c .before .before .before .judge .ensures) (c .before .enum-told2 .given .1) (c .why-judged .ensures) refl in
-    written-refused (now (c .before .before .before .before .before .before .before .before .before .args .out)) _ (numberOf (c .why-judged .result))
+    let j = handed-answer answerOfJudged (c .before .before .before .judge .ensures) (c .before .enum-told2 .given .1) (c .why-judged .ensures) refl in
+    written-refused (now (c .before .before .before .before .before .before .before .before .before .args .out)) _ (faultNumber (c .why-judged .result))
     (reports-refused (c .before .before .before .before .before .before .before .before .before .args .count) (c .before .before .before .before .before .before .before .before .before .args .heads) (c .before .before .before .before .before .before .before .before .before .args .list-length) (now (c .before .before .before .before .before .before .before .before .before .args .errors)) (length (now (c .before .before .before .before .before .before .before .before .before .args .out))) _ (c .before .before .before .before .before .before .if1 .left) q j)
 
 mul-size : tie.Need-mul-size

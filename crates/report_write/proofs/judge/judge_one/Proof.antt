@@ -1,8 +1,8 @@
 -- `report_write::judge::judge_one` meets its contract: the range, the error count, the errors.
-use Rattle.base.specs.Answer.{refused, given, pick}
-use Rattle.base.specs.Ranges.{answerOfLast, whyLast}
+use Rattle.base.specs.Answer.{given, pick}
+use Rattle.base.specs.Ranges.{answerOfLast}
 use Rattle.report_write.specs.Writing.{judgedOne}
-use Rattle.xdr.proofs.Steps.{came, handed}
+use Rattle.xdr.proofs.Steps.{came, handed-answer}
 use borrow.Author.Needs.{needs}
 use borrow.Author.Tests.{le-leb, lt-leb, not-true, not-false}
 use mathlib.Core.Path.{refl, sym, _∙_}
@@ -23,7 +23,7 @@ why-last-requires c κs = search needs
 
 returns : tie.Need-returns
 unfolding judgedOne given
-returns c = rw (handed answerOfLast whyLast refused (c .before .before .before .range-last .ensures) (c .before .enum-told2 .given .1) (c .why-last .ensures) refl)
+returns c = rw (handed-answer answerOfLast (c .before .before .before .range-last .ensures) (c .before .enum-told2 .given .1) (c .why-last .ensures) refl)
 
 returns-2 : tie.Need-returns-2
 unfolding judgedOne given pick

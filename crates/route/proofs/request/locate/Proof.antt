@@ -1,14 +1,14 @@
 -- `route::request::locate` meets its contract: soundness, then the range, then what serves.
-use Rattle.base.specs.Answer.{refused}
-use Rattle.base.specs.Ranges.{answerOfLast, whyLast}
+use Rattle.base.specs.Ranges.{answerOfLast}
 use Rattle.route.proofs.RouteLaws.{is-served, is-unsound, judged-known, not-served, range-refused}
 use Rattle.route.proofs.ServedLaws.{served-limits}
-use Rattle.route.specs.Answers.{answerOfServing, whyServing}
+use Rattle.route.specs.Answers.{answerOfServing}
 use Rattle.route.specs.declared.rights.ServingAnswer.{ServingAnswer}
-use Rattle.xdr.proofs.Steps.{came, handed}
+use Rattle.xdr.proofs.Steps.{came, handed-answer, handed-answer-from}
 use borrow.Author.Needs.{needs}
 use borrow.Author.Tests.{not-false, not-true}
 use denote.Ref.{now}
+use mathlib.Core.List.{[]}
 use mathlib.Core.Path.{refl, sym, _∙_}
 use Rattle.route.proofs.request.locate.Statement.{statement}
 use Rattle.route.proofs.request.locate.Tie as tie
@@ -40,7 +40,7 @@ returns-2 : tie.Need-returns-2
 returns-2 c =
     let a = c .before .before .before .before .before .before .before .before .before .args in
     sym (range-refused (a .write) (a .t) (now (a .store)) (a .offset) (a .len) _ (sym (c .before .before .before .before .before .before .judge-and-read .ensures .0) ∙ not-false _ (c .before .before .before .before .if1 .left))
-    (handed answerOfLast whyLast refused (c .before .before .before .request-last .ensures) (c .before .enum-told2 .given .1) (c .why-last .ensures) refl))
+    (handed-answer answerOfLast (c .before .before .before .request-last .ensures) (c .before .enum-told2 .given .1) (c .why-last .ensures) refl))
 
 find-serving-requires : tie.Need-find-serving-requires
 find-serving-requires c κs =
@@ -62,7 +62,7 @@ returns-3 c =
     let starts = c .before .before .before .find-serving .result .starts in
     sym (not-served (a .write) (a .t) (now (a .store)) (a .offset) (a .len) _ _ (sym (c .before .before .before .before .before .before .before .before .before .before .judge-and-read .ensures .0) ∙ not-false _ (c .before .before .before .before .before .before .before .before .if1 .left))
     (came answerOfLast (c .before .before .before .before .before .before .before .request-last .ensures) (c .before .before .before .before .before .enum-told .given .1))
-    (handed (λ (x : ServingAnswer). answerOfServing x starts) whyServing refused (c .before .before .before .find-serving .ensures) (c .before .enum-told3 .given .1) (c .why-serving .ensures) refl))
+    (handed-answer-from (λ (x : ServingAnswer). answerOfServing x []) (λ (x : ServingAnswer). answerOfServing x starts) (c .before .before .before .find-serving .ensures) (c .before .enum-told3 .given .1) (c .why-serving .ensures) refl refl))
 
 piece-at-requires : tie.Need-piece-at-requires
 piece-at-requires c κs =

@@ -1,11 +1,12 @@
 -- `route::rights::served_by` meets its contract: the layout body in the slot is read, or refused.
 use Rattle.base.specs.Answer.{refused}
-use Rattle.layout.specs.Answers.{answerOfLayout, whyLayout}
+use Rattle.layout.specs.Answers.{answerOfLayout}
 use Rattle.layout.specs.declared.body.LayoutAnswer.{LayoutAnswer}
 use Rattle.route.proofs.RouteLaws.{layout-read, layout-refused, refused-serving}
-use Rattle.xdr.proofs.Steps.{came, handed}
+use Rattle.xdr.proofs.Steps.{came, handed-answer-from}
 use borrow.Author.Needs.{needs}
 use denote.Ref.{now}
+use mathlib.Core.List.{[]}
 use mathlib.Core.Path.{refl, sym, _∙_}
 use Rattle.route.proofs.rights.served_by.Statement.{statement}
 use Rattle.route.proofs.rights.served_by.Tie as tie
@@ -28,7 +29,7 @@ refused-requires c κs = search needs
 returns : tie.Need-returns
 returns c =
     refused-serving _ _ (c .refused .ensures)
-    ∙ sym (layout-refused (now (c .before .before .before .before .before .before .args .store)) (c .before .before .before .before .before .before .args .iomode) _ _ (handed (λ (x : LayoutAnswer). answerOfLayout x (c .before .before .before .before .layout-of .result .starts)) whyLayout refused (c .before .before .before .before .layout-of .ensures) (c .before .before .enum-told .given .1) (c .before .why-layout .ensures) refl))
+    ∙ sym (layout-refused (now (c .before .before .before .before .before .before .args .store)) (c .before .before .before .before .before .before .args .iomode) _ _ (handed-answer-from (λ (x : LayoutAnswer). answerOfLayout x []) (λ (x : LayoutAnswer). answerOfLayout x (c .before .before .before .before .layout-of .result .starts)) (c .before .before .before .before .layout-of .ensures) (c .before .before .enum-told .given .1) (c .before .why-layout .ensures) refl refl))
 
 returns-2 : tie.Need-returns-2
 returns-2 c =

@@ -1,8 +1,8 @@
 -- `route::rights::write_served` meets its contract.
 use Rattle.base.specs.Answer.{refused}
 use Rattle.route.proofs.RouteLaws.{no-rw-grant, refused-serving, rw-grant}
-use Rattle.route.specs.Answers.{answerOfGrant, whyGrant}
-use Rattle.xdr.proofs.Steps.{came, handed}
+use Rattle.route.specs.Answers.{answerOfGrant}
+use Rattle.xdr.proofs.Steps.{came, handed-answer}
 use borrow.Author.Needs.{needs}
 use denote.Ref.{now}
 use mathlib.Core.Path.{refl, sym, _∙_}
@@ -25,7 +25,7 @@ refused-requires : tie.Need-refused-requires
 refused-requires c κs = search needs
 
 returns : tie.Need-returns
-returns c = refused-serving _ _ (c .refused .ensures) ∙ sym (no-rw-grant (now (c .before .before .before .before .before .before .before .args .store)) (c .before .before .before .before .before .before .before .args .t) (c .before .before .before .before .before .before .before .args .x) _ (handed answerOfGrant whyGrant refused (c .before .before .before .before .grant-at .ensures) (c .before .before .enum-told .given .1) (c .before .why-grant .ensures) refl))
+returns c = refused-serving _ _ (c .refused .ensures) ∙ sym (no-rw-grant (now (c .before .before .before .before .before .before .before .args .store)) (c .before .before .before .before .before .before .before .args .t) (c .before .before .before .before .before .before .before .args .x) _ (handed-answer answerOfGrant (c .before .before .before .before .grant-at .ensures) (c .before .before .enum-told .given .1) (c .before .why-grant .ensures) refl))
 
 served-by-requires : tie.Need-served-by-requires
 served-by-requires c κs = c .before .before .before .before .before .before .pre

@@ -2,9 +2,9 @@
 use Rattle.server.specs.Servers.{handlesAt}
 use Rattle.xdr.proofs.EndLaws.{first-refuses, none-end, others-end}
 use Rattle.xdr.proofs.Steps.{came, handed}
-use Rattle.xdr.specs.Answers.{resOfPart, whyPart}
+use Rattle.xdr.specs.Answers.{resOfPart}
 use Rattle.xdr.specs.Items.{opaqueAt}
-use Rattle.xdr.specs.Res.{no, endOf}
+use Rattle.xdr.specs.Res.{endOf}
 use borrow.Author.Needs.{needs}
 use denote.Ref.{now}
 use mathlib.Core.Path.{_≡_, refl, _∙_}
@@ -37,7 +37,7 @@ returns : tie.Need-returns Inv-loop μ-loop
 unfolding handlesAt
 returns c =
     let l = c .before .before .before .before .before .loop in
-    rw (l .inv, first-refuses (opaqueAt 1 128) (l .left) (now (c .before .before .before .before .before .before .before .args .s)) (l .d .at) _ (omega arith) (handed resOfPart whyPart no (c .before .before .before .read-opaque .ensures) (c .before .enum-told .given .1) (c .why-part .ensures) refl))
+    rw (l .inv, first-refuses (opaqueAt 1 128) (l .left) (now (c .before .before .before .before .before .before .before .args .s)) (l .d .at) _ (omega arith) (handed resOfPart (c .before .before .before .read-opaque .ensures) (c .before .enum-told .given .1) (c .why-part .ensures) refl))
 
 sub-left : tie.Need-sub-left Inv-loop μ-loop
 sub-left c = search needs

@@ -1,8 +1,8 @@
 -- `server::head::read_head` meets its contract, item by item.
 use Rattle.server.specs.Servers.{headAt}
 use Rattle.xdr.proofs.Steps.{came, handed}
-use Rattle.xdr.specs.Answers.{resOfPart, resOfU32, whyPart, whyU32}
-use Rattle.xdr.specs.Res.{no, then}
+use Rattle.xdr.specs.Answers.{resOfPart, resOfU32}
+use Rattle.xdr.specs.Res.{then}
 use borrow.Author.Needs.{needs}
 use mathlib.Core.Path.{refl}
 use Rattle.server.proofs.head.read_head.Statement.{statement}
@@ -22,7 +22,7 @@ why-part-requires c κs = search needs
 
 returns : tie.Need-returns
 unfolding headAt then
-returns c = rw (handed resOfPart whyPart no (c .before .before .before .read-bytes .ensures) (c .before .enum-told .given .1) (c .why-part .ensures) refl)
+returns c = rw (handed resOfPart (c .before .before .before .read-bytes .ensures) (c .before .enum-told .given .1) (c .why-part .ensures) refl)
 
 read-u32-requires : tie.Need-read-u32-requires
 read-u32-requires c κs = search needs
@@ -38,7 +38,7 @@ why-u32-requires c κs = search needs
 
 returns-2 : tie.Need-returns-2
 unfolding headAt then
-returns-2 c = rw (came resOfPart (c .before .before .before .before .before .before .before .read-bytes .ensures) (c .before .before .before .before .before .d .given .1), handed resOfU32 whyU32 no (c .before .before .before .read-u32 .ensures) (c .before .enum-told2 .given .1) (c .why-u32 .ensures) refl)
+returns-2 c = rw (came resOfPart (c .before .before .before .before .before .before .before .read-bytes .ensures) (c .before .before .before .before .before .d .given .1), handed resOfU32 (c .before .before .before .read-u32 .ensures) (c .before .enum-told2 .given .1) (c .why-u32 .ensures) refl)
 
 read-bytes-requires-2 : tie.Need-read-bytes-requires-2
 read-bytes-requires-2 c κs = search needs
@@ -54,7 +54,7 @@ why-part-requires-2 c κs = search needs
 
 returns-3 : tie.Need-returns-3
 unfolding headAt then
-returns-3 c = rw (came resOfPart (c .before .before .before .before .before .before .before .before .before .before .before .read-bytes .ensures) (c .before .before .before .before .before .before .before .before .before .d .given .1), came resOfU32 (c .before .before .before .before .before .before .before .read-u32 .ensures) (c .before .before .before .before .before .e .given .1), handed resOfPart whyPart no (c .before .before .before .read-bytes2 .ensures) (c .before .enum-told3 .given .1) (c .why-part2 .ensures) refl)
+returns-3 c = rw (came resOfPart (c .before .before .before .before .before .before .before .before .before .before .before .read-bytes .ensures) (c .before .before .before .before .before .before .before .before .before .d .given .1), came resOfU32 (c .before .before .before .before .before .before .before .read-u32 .ensures) (c .before .before .before .before .before .e .given .1), handed resOfPart (c .before .before .before .read-bytes2 .ensures) (c .before .enum-told3 .given .1) (c .why-part2 .ensures) refl)
 
 read-count-requires : tie.Need-read-count-requires
 read-count-requires c κs = search needs
@@ -70,7 +70,7 @@ why-u32-requires-2 c κs = search needs
 
 returns-4 : tie.Need-returns-4
 unfolding headAt then
-returns-4 c = rw (came resOfPart (c .before .before .before .before .before .before .before .before .before .before .before .before .before .before .before .read-bytes .ensures) (c .before .before .before .before .before .before .before .before .before .before .before .before .before .d .given .1), came resOfU32 (c .before .before .before .before .before .before .before .before .before .before .before .read-u32 .ensures) (c .before .before .before .before .before .before .before .before .before .e .given .1), came resOfPart (c .before .before .before .before .before .before .before .read-bytes2 .ensures) (c .before .before .before .before .before .t .given .1), handed resOfU32 whyU32 no (c .before .before .before .read-count .ensures) (c .before .enum-told4 .given .1) (c .why-u322 .ensures) refl)
+returns-4 c = rw (came resOfPart (c .before .before .before .before .before .before .before .before .before .before .before .before .before .before .before .read-bytes .ensures) (c .before .before .before .before .before .before .before .before .before .before .before .before .before .d .given .1), came resOfU32 (c .before .before .before .before .before .before .before .before .before .before .before .read-u32 .ensures) (c .before .before .before .before .before .before .before .before .before .e .given .1), came resOfPart (c .before .before .before .before .before .before .before .read-bytes2 .ensures) (c .before .before .before .before .before .t .given .1), handed resOfU32 (c .before .before .before .read-count .ensures) (c .before .enum-told4 .given .1) (c .why-u322 .ensures) refl)
 
 returns-5 : tie.Need-returns-5
 unfolding headAt then

@@ -1,10 +1,10 @@
 -- `server::item::read_server` meets its contract, item by item.
 use Rattle.xdr.proofs.EndLaws.{end-then, end-refused}
-use Rattle.server.specs.Answers.{resOfEnd, resOfHead, whyEnd, whyHead}
+use Rattle.server.specs.Answers.{resOfHead}
 use Rattle.server.specs.Servers.{serverAt}
 use Rattle.xdr.proofs.Steps.{came, handed}
-use Rattle.xdr.specs.Answers.{resOfPart, whyPart}
-use Rattle.xdr.specs.Res.{no, then}
+use Rattle.xdr.specs.Answers.{resOfEnd, resOfPart}
+use Rattle.xdr.specs.Res.{then}
 use borrow.Author.Needs.{needs}
 use mathlib.Core.Path.{refl, sym, _∙_}
 use Rattle.server.proofs.item.read_server.Statement.{statement}
@@ -24,7 +24,7 @@ why-head-requires c κs = search needs
 
 returns : tie.Need-returns
 unfolding serverAt then
-returns c = rw (handed resOfHead whyHead no (c .before .before .before .read-head .ensures) (c .before .enum-told .given .1) (c .why-head .ensures) refl)
+returns c = rw (handed resOfHead (c .before .before .before .read-head .ensures) (c .before .enum-told .given .1) (c .why-head .ensures) refl)
 
 skip-handles-requires : tie.Need-skip-handles-requires
 skip-handles-requires c κs = search needs
@@ -40,7 +40,7 @@ why-end-requires c κs = search needs
 
 returns-2 : tie.Need-returns-2
 unfolding serverAt then
-returns-2 c = rw (came resOfHead (c .before .before .before .before .before .before .before .read-head .ensures) (c .before .before .before .before .before .h .given .1)) (sym (end-refused _ _ _ (handed resOfEnd whyEnd no (c .before .before .before .skip-handles .ensures) (c .before .enum-told2 .given .1) (c .why-end .ensures) refl)))
+returns-2 c = rw (came resOfHead (c .before .before .before .before .before .before .before .read-head .ensures) (c .before .before .before .before .before .h .given .1)) (sym (end-refused _ _ _ (handed resOfEnd (c .before .before .before .skip-handles .ensures) (c .before .enum-told2 .given .1) (c .why-end .ensures) refl)))
 
 read-opaque-requires : tie.Need-read-opaque-requires
 read-opaque-requires c κs = search needs
@@ -56,7 +56,7 @@ why-part-requires c κs = search needs
 
 returns-3 : tie.Need-returns-3
 unfolding serverAt then
-returns-3 c = rw (came resOfHead (c .before .before .before .before .before .before .before .before .before .before .before .read-head .ensures) (c .before .before .before .before .before .before .before .before .before .h .given .1)) (sym (end-then _ _ _ (came resOfEnd (c .before .before .before .before .before .before .before .skip-handles .ensures) (c .before .before .before .before .before .n .given .1)) ∙ rw (handed resOfPart whyPart no (c .before .before .before .read-opaque .ensures) (c .before .enum-told3 .given .1) (c .why-part .ensures) refl)))
+returns-3 c = rw (came resOfHead (c .before .before .before .before .before .before .before .before .before .before .before .read-head .ensures) (c .before .before .before .before .before .before .before .before .before .h .given .1)) (sym (end-then _ _ _ (came resOfEnd (c .before .before .before .before .before .before .before .skip-handles .ensures) (c .before .before .before .before .before .n .given .1)) ∙ rw (handed resOfPart (c .before .before .before .read-opaque .ensures) (c .before .enum-told3 .given .1) (c .why-part .ensures) refl)))
 
 read-opaque-requires-2 : tie.Need-read-opaque-requires-2
 read-opaque-requires-2 c κs = search needs
@@ -72,7 +72,7 @@ why-part-requires-2 c κs = search needs
 
 returns-4 : tie.Need-returns-4
 unfolding serverAt then
-returns-4 c = rw (came resOfHead (c .before .before .before .before .before .before .before .before .before .before .before .before .before .before .before .read-head .ensures) (c .before .before .before .before .before .before .before .before .before .before .before .before .before .h .given .1)) (sym (end-then _ _ _ (came resOfEnd (c .before .before .before .before .before .before .before .before .before .before .before .skip-handles .ensures) (c .before .before .before .before .before .before .before .before .before .n .given .1)) ∙ rw (came resOfPart (c .before .before .before .before .before .before .before .read-opaque .ensures) (c .before .before .before .before .before .u .given .1), handed resOfPart whyPart no (c .before .before .before .read-opaque2 .ensures) (c .before .enum-told4 .given .1) (c .why-part2 .ensures) refl)))
+returns-4 c = rw (came resOfHead (c .before .before .before .before .before .before .before .before .before .before .before .before .before .before .before .read-head .ensures) (c .before .before .before .before .before .before .before .before .before .before .before .before .before .h .given .1)) (sym (end-then _ _ _ (came resOfEnd (c .before .before .before .before .before .before .before .before .before .before .before .skip-handles .ensures) (c .before .before .before .before .before .before .before .before .before .n .given .1)) ∙ rw (came resOfPart (c .before .before .before .before .before .before .before .read-opaque .ensures) (c .before .before .before .before .before .u .given .1), handed resOfPart (c .before .before .before .read-opaque2 .ensures) (c .before .enum-told4 .given .1) (c .why-part2 .ensures) refl)))
 
 returns-5 : tie.Need-returns-5
 unfolding serverAt then

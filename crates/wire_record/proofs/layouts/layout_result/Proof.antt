@@ -7,8 +7,8 @@ use Rattle.wire_record.proofs.layouts.layout_result.Tie as tie
 enum-known-a : tie.Need-enum-known-a
 enum-known-a c = search needs
 
-number-requires : tie.Need-number-requires
-number-requires c κs = search needs
+fault-number-requires : tie.Need-fault-number-requires
+fault-number-requires c κs = search needs
 
 enum-known-a-2 : tie.Need-enum-known-a-2
 enum-known-a-2 c = search needs
@@ -18,7 +18,7 @@ summary-record-requires c κs = search needs
 
 returns : tie.Need-returns
 unfolding layoutResult
-returns c = rw (c .before .before .a .given .1, c .number .ensures)
+returns c = rw (c .before .before .a .given .1, c .fault-number .ensures)
 
 returns-2 : tie.Need-returns-2
 unfolding layoutResult
@@ -29,7 +29,7 @@ layout-result-spec =
     tie.close
     (tie.spec
     enum-known-a
-    number-requires
+    fault-number-requires
     enum-known-a-2
     summary-record-requires
     returns

@@ -8,15 +8,15 @@ use Rattle.wire_record.proofs.reports.reports_result.Tie as tie
 enum-known-a : tie.Need-enum-known-a
 enum-known-a c = search needs
 
-number-requires : tie.Need-number-requires
-number-requires c κs = search needs
+fault-number-requires : tie.Need-fault-number-requires
+fault-number-requires c κs = search needs
 
 enum-known-a-2 : tie.Need-enum-known-a-2
 enum-known-a-2 c = search needs
 
 returns : tie.Need-returns
 unfolding reportsResult given
-returns c = rw (c .before .before .a .given .1, c .number .ensures)
+returns c = rw (c .before .before .a .given .1, c .fault-number .ensures)
 
 returns-2 : tie.Need-returns-2
 unfolding reportsResult given
@@ -25,4 +25,4 @@ returns-2 c = rw (c .before .a2 .given .1)
 pub reports-result-spec : {M : Type 1} → statement M
 reports-result-spec =
     tie.close
-    (tie.spec enum-known-a number-requires enum-known-a-2 returns returns-2)
+    (tie.spec enum-known-a fault-number-requires enum-known-a-2 returns returns-2)

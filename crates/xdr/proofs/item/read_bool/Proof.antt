@@ -1,9 +1,9 @@
 -- `xdr::item::read_bool` meets its contract: four bytes, then the value.
 use Rattle.base.specs.Answer.{pick}
 use Rattle.xdr.proofs.Steps.{came, handed}
-use Rattle.xdr.specs.Answers.{resOfU32, whyU32}
+use Rattle.xdr.specs.Answers.{resOfU32}
 use Rattle.xdr.specs.Items.{boolAt}
-use Rattle.xdr.specs.Res.{no, then}
+use Rattle.xdr.specs.Res.{then}
 use borrow.Author.Needs.{needs}
 use borrow.Author.Tests.{le-leb, lt-leb}
 use mathlib.Core.Path.{refl}
@@ -24,7 +24,7 @@ why-u32-requires c κs = search needs
 
 returns : tie.Need-returns
 unfolding boolAt then
-returns c = rw (handed resOfU32 whyU32 no (c .before .before .before .read-u32 .ensures) (c .before .enum-told .given .1) (c .why-u32 .ensures) refl)
+returns c = rw (handed resOfU32 (c .before .before .before .read-u32 .ensures) (c .before .enum-told .given .1) (c .why-u32 .ensures) refl)
 
 returns-2 : tie.Need-returns-2
 unfolding boolAt then pick

@@ -1,8 +1,8 @@
 -- `xdr::item::read_opaque` meets its contract: the length, then the bytes.
 use Rattle.xdr.proofs.Steps.{came, handed}
-use Rattle.xdr.specs.Answers.{resOfU32, whyU32}
+use Rattle.xdr.specs.Answers.{resOfU32}
 use Rattle.xdr.specs.Items.{opaqueAt}
-use Rattle.xdr.specs.Res.{no, then}
+use Rattle.xdr.specs.Res.{then}
 use borrow.Author.Needs.{needs}
 use mathlib.Core.Path.{refl}
 use Rattle.xdr.proofs.item.read_opaque.Statement.{statement}
@@ -22,7 +22,7 @@ why-u32-requires c κs = search needs
 
 returns : tie.Need-returns
 unfolding opaqueAt then
-returns c = rw (handed resOfU32 whyU32 no (c .before .before .before .read-count .ensures) (c .before .enum-told .given .1) (c .why-u32 .ensures) refl)
+returns c = rw (handed resOfU32 (c .before .before .before .read-count .ensures) (c .before .enum-told .given .1) (c .why-u32 .ensures) refl)
 
 cast-read-bytes : tie.Need-cast-read-bytes
 cast-read-bytes c = search needs

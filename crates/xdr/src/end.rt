@@ -1,0 +1,22 @@
+// Where items end that are read past.
+use crate::Cursor;
+use base::Fault;
+ghost use mathlib.Core.Path.{_≡_};
+ghost use Rattle.base.specs.Refusals.{faultNumber};
+ghost use Rattle.xdr.specs.Res.{faultIn};
+ghost use Rattle.xdr.specs.Answers.{resOfEnd};
+
+// The place behind what was read.
+pub enum ReadEnd {
+    Value(Cursor),
+    Refused(Fault),
+}
+
+pub fn why_end(r: ReadEnd) -> Fault
+    ensures { λ e. ⌜ faultNumber e ≡ faultIn (resOfEnd r) ⌝ }
+{
+    match r {
+        ReadEnd::Refused(e) => e,
+        ReadEnd::Value(_) => Fault::BytesRunOut,
+    }
+}
