@@ -1,7 +1,7 @@
 // The columns of a chart: one piece after the other.
-use crate::cell::digits;
 use base::MirrorNumber;
 use base::StripeNumber;
+use print::digits;
 
 // The bytes from an offset on, and where they go. Without mirrors there is no right.
 pub struct Column {

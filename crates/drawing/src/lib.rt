@@ -1,5 +1,4 @@
 // The stripe chart of a layout, drawn in text or as an SVG picture.
-mod cell;
 mod columns;
 mod facts;
 mod picture;

@@ -1,6 +1,4 @@
 // The chart in text: servers down the side, offsets along the top.
-use crate::cell::say_right;
-use crate::cell::say_times;
 use crate::columns::Column;
 use crate::columns::Columns;
 use crate::columns::goes_to;
@@ -15,6 +13,8 @@ use base::MirrorNumber;
 use base::StripeNumber;
 use print::say;
 use print::say_device_id;
+use print::say_right;
+use print::say_times;
 
 // What a row shows of each column.
 pub enum Row {

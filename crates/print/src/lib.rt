@@ -1,6 +1,11 @@
 // Words and numbers, to standard output.
+mod cell;
+
 use base::Fault;
 use base::Refusal;
+pub use cell::digits;
+pub use cell::say_right;
+pub use cell::say_times;
 use libc::STDOUT_FILENO;
 ghost use Prim.Native.Nat.{_≤_};
 ghost use lib.ListN.{length};

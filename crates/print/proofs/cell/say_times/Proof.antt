@@ -1,8 +1,8 @@
--- `drawing::cell::say_times` is safe and ends. Each turn leaves fewer.
+-- `print::cell::say_times` is safe and ends. Each turn leaves fewer.
 use Prim.Native.Nat.{_-_}
 use borrow.Author.Needs.{needs}
-use Rattle.drawing.proofs.cell.say_times.Statement.{statement}
-use Rattle.drawing.proofs.cell.say_times.Tie as tie
+use Rattle.print.proofs.cell.say_times.Statement.{statement}
+use Rattle.print.proofs.cell.say_times.Tie as tie
 
 abbrev Inv-loop : tie.InvT-loop
 Inv-loop text n i₀ i = Unit {0}
