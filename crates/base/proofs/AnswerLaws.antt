@@ -1,6 +1,6 @@
 -- What holds of tests that were passed, and of answers: what an accepted one went through.
 use Prim.Native.Nat.{ℕ}
-use mathlib.Core.Path.{_≡_, refl}
+use mathlib.Core.Path.{_≡_, refl, sym}
 use mathlib.Core.Bool.{Bool, true, false, _&&_, false≢true}
 use native.Mathlib.Omega.{arith}
 use Rattle.base.specs.Answer.{Answer, accepted, refused, given, pick}
@@ -8,6 +8,13 @@ use Rattle.base.specs.Answer.{Answer, accepted, refused, given, pick}
 pub both : (a b : Bool) → (a && b) ≡ true → (a ≡ true) × (b ≡ true)
 both true b h = (refl, h)
 both false b h = absurd (false≢true h)
+
+-- two tests that hold together
+pub same-tests : (a b : Bool) → (a ≡ true → b ≡ true) → (b ≡ true → a ≡ true) → a ≡ b
+same-tests true true f g = refl
+same-tests true false f g = sym (f refl)
+same-tests false true f g = g refl
+same-tests false false f g = refl
 
 pub pick-true : {A : Type 0} (t : Bool) (a b : A) → t ≡ true → pick t a b ≡ a
 unfolding pick

@@ -1,9 +1,14 @@
-// What every layer shares: the refusals with their numbers, iomodes, the three kinds of number, and the two range rules.
+// What every layer shares: the refusals with their numbers, iomodes, the three kinds of number, the two range rules, and tests of
+// single numbers.
+mod bits;
 mod iomode;
 mod limits;
+mod order;
 mod range;
 mod refusal;
+mod wide;
 
+pub use bits::has_bit;
 pub use iomode::Iomode;
 pub use iomode::ReadIomode;
 pub use iomode::grant_iomode;
@@ -34,6 +39,8 @@ pub use limits::SLOT_HEAD_SIZE;
 pub use limits::SLOT_SIZE;
 pub use limits::STATEID_SIZE;
 pub use limits::STORE_SIZE;
+pub use order::larger;
+pub use order::smaller;
 pub use range::LARGEST_SUM;
 pub use range::LAST_BYTE;
 pub use range::Last;
@@ -45,6 +52,8 @@ pub use refusal::Fault;
 pub use refusal::Refusal;
 pub use refusal::fault_number;
 pub use refusal::number;
+pub use wide::wide8;
+pub use wide::wide16;
 
 // A mirror's place among the mirrors of a layout.
 pub struct MirrorNumber(pub u32);

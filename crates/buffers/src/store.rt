@@ -1,16 +1,18 @@
 // Big-endian numbers and bytes stored into a buffer. Where they do not fit, the buffer stays as it was.
 ghost use mathlib.Core.Path.{_≡_};
-ghost use Prim.Native.Nat.{_+_, _≤_};
-ghost use lib.ListN.{length};
-ghost use lib.Seq.{sets};
 ghost use Rattle.buffers.specs.Buffers.{stored};
 ghost use Rattle.numbers.specs.Numbers.{beBytes};
 
 // The k bytes of v, from the last one to the first.
 fn put_be(buf: &mut [u8], at: usize, k: usize, v: u64)
-    requires { ⌜ at + k ≤ length (now buf) ⌝ }
-    ensures { λ r. ⌜ now (buf .exit) ≡ sets (now (buf .entry)) at (beBytes k v) ⌝ }
+    ensures { λ r. ⌜ now (buf .exit) ≡ stored (now (buf .entry)) at (beBytes k v) ⌝ }
 {
+    if buf.len() < at {
+        return;
+    }
+    if buf.len() - at < k {
+        return;
+    }
     let mut w = v;
     let mut i = k;
     while 0 < i {
@@ -23,24 +25,12 @@ fn put_be(buf: &mut [u8], at: usize, k: usize, v: u64)
 pub fn put_be4(buf: &mut [u8], at: usize, v: u32)
     ensures { λ r. ⌜ now (buf .exit) ≡ stored (now (buf .entry)) at (beBytes 4 v) ⌝ }
 {
-    if buf.len() < at {
-        return;
-    }
-    if buf.len() - at < 4 {
-        return;
-    }
     put_be(buf, at, 4, v as u64);
 }
 
 pub fn put_be8(buf: &mut [u8], at: usize, v: u64)
     ensures { λ r. ⌜ now (buf .exit) ≡ stored (now (buf .entry)) at (beBytes 8 v) ⌝ }
 {
-    if buf.len() < at {
-        return;
-    }
-    if buf.len() - at < 8 {
-        return;
-    }
     put_be(buf, at, 8, v);
 }
 

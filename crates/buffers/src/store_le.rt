@@ -1,16 +1,18 @@
 // Little-endian numbers stored into a buffer. Where they do not fit, the buffer stays as it was.
 ghost use mathlib.Core.Path.{_≡_};
-ghost use Prim.Native.Nat.{_+_, _≤_};
-ghost use lib.ListN.{length};
-ghost use lib.Seq.{sets};
 ghost use Rattle.buffers.specs.Buffers.{stored};
 ghost use Rattle.numbers.specs.Numbers.{leBytes};
 
 // The k bytes of v, from the first one to the last.
 fn put_le(buf: &mut [u8], at: usize, k: usize, v: u64)
-    requires { ⌜ at + k ≤ length (now buf) ⌝ }
-    ensures { λ r. ⌜ now (buf .exit) ≡ sets (now (buf .entry)) at (leBytes k v) ⌝ }
+    ensures { λ r. ⌜ now (buf .exit) ≡ stored (now (buf .entry)) at (leBytes k v) ⌝ }
 {
+    if buf.len() < at {
+        return;
+    }
+    if buf.len() - at < k {
+        return;
+    }
     let mut w = v;
     let mut i: usize = 0;
     while i < k {
@@ -23,23 +25,11 @@ fn put_le(buf: &mut [u8], at: usize, k: usize, v: u64)
 pub fn put_le2(buf: &mut [u8], at: usize, v: u32)
     ensures { λ r. ⌜ now (buf .exit) ≡ stored (now (buf .entry)) at (leBytes 2 v) ⌝ }
 {
-    if buf.len() < at {
-        return;
-    }
-    if buf.len() - at < 2 {
-        return;
-    }
     put_le(buf, at, 2, v as u64);
 }
 
 pub fn put_le4(buf: &mut [u8], at: usize, v: u32)
     ensures { λ r. ⌜ now (buf .exit) ≡ stored (now (buf .entry)) at (leBytes 4 v) ⌝ }
 {
-    if buf.len() < at {
-        return;
-    }
-    if buf.len() - at < 4 {
-        return;
-    }
     put_le(buf, at, 4, v as u64);
 }

@@ -6,12 +6,13 @@ use mathlib.Core.List.{List, [], _∷_}
 use Rattle.base.specs.Iomodes.{grantIomodeOf}
 use Rattle.base.specs.Ranges.{rangeLast, requestLast}
 use Rattle.xdr.specs.Res.{Res}
+use Rattle.xdr.specs.Lists.{listAt}
 use Rattle.server.specs.Servers.{handlesAt, headAt, serverAt}
 use Rattle.layout.specs.Layouts.{frontAt, layoutAt, layoutBody, mirrorAt, mirrorsAt, tailAt}
 use Rattle.layout4.specs.Layout4s.{frameAt, layout4, layout4At, rangeAt}
 use Rattle.netaddr.specs.Addresses.{addressAt}
 use Rattle.device_version.specs.Versions.{judged, versionAt}
-use Rattle.device.specs.Bodies.{deviceAt, deviceBody, listAt}
+use Rattle.device.specs.Bodies.{deviceAt, deviceBody}
 use Rattle.report.specs.Reports as report
 use Rattle.report.specs.declared.ReportHead.{ReportHead}
 use Rattle.report_write.specs.Writing as write
@@ -133,19 +134,19 @@ version-faults s at =
     run (bool-faults s u) refl λ tight v.
     tested _ 12 read refl
 
-list-faults : {A : Type 0} (ns : List ℕ) (item : List ℕ → ℕ → Res A) (blank : A) (s : List ℕ) (at : ℕ) → allIn (1 ∷ 8 ∷ []) ns ≡ true
-    → ((s : List ℕ) (at : ℕ) → FaultsIn ns (item s at)) → allIn ns ns ≡ true → FaultsIn ns (listAt item blank s at)
+list-faults : {A : Type 0} (ns : List ℕ) (lo hi : ℕ) (item : List ℕ → ℕ → Res A) (blank : A) (s : List ℕ) (at : ℕ) → allIn (1 ∷ 8 ∷ []) ns ≡ true
+    → ((s : List ℕ) (at : ℕ) → FaultsIn ns (item s at)) → allIn ns ns ≡ true → FaultsIn ns (listAt lo hi item blank s at)
 unfolding listAt
-list-faults ns item blank s at i h j =
-    run (count-faults 1 8 s at) i λ n p.
+list-faults ns lo hi item blank s at i h j =
+    run (count-faults lo hi s at) i λ n p.
     run (many-faults h n s p) j λ l q.
     read
 
 device-faults : (s : List ℕ) (at : ℕ) → FaultsIn (1 ∷ 6 ∷ 7 ∷ 8 ∷ 12 ∷ []) (deviceAt s at)
 unfolding deviceAt
 device-faults s at =
-    run (list-faults (1 ∷ 6 ∷ 8 ∷ []) addressAt _ s at refl address-faults refl) refl λ a p.
-    run (list-faults (1 ∷ 7 ∷ 8 ∷ 12 ∷ []) versionAt _ s p refl (λ r q. wider (version-faults r q) refl) refl) refl λ v q.
+    run (list-faults (1 ∷ 6 ∷ 8 ∷ []) 1 8 addressAt _ s at refl address-faults refl) refl λ a p.
+    run (list-faults (1 ∷ 7 ∷ 8 ∷ 12 ∷ []) 1 8 versionAt _ s p refl (λ r q. wider (version-faults r q) refl) refl) refl λ v q.
     read
 
 pub device-refusals : (s : List ℕ) → RefusalsIn (1 ∷ 2 ∷ 6 ∷ 7 ∷ 8 ∷ 12 ∷ []) (deviceBody s)

@@ -11,7 +11,8 @@ use Rattle.numbers.proofs.NumberLaws.{length-bytes}
 use Rattle.xdr.specs.Res.{ok, manyAt}
 use Rattle.xdr.specs.Items.{opaqueAt, padding}
 use Rattle.xdr.specs.declared.Part.{Part}
-use Rattle.xdr.proofs.Accepted.{bytes-read, count-read, item-accepted, many-exact, many-least, many-length, number-read, opaque-read, passed, ran, same-place, same-value, whole-read}
+use Rattle.xdr.proofs.Accepted.{bytes-read, count-read, item-accepted, number-read, opaque-read, passed, ran, same-place, same-value, whole-read}
+use Rattle.xdr.proofs.ManyLaws.{many-exact, many-least, many-length}
 use Rattle.server.specs.Servers.{handlesAt, serverAt}
 use Rattle.server.specs.declared.item.Server.{Server}
 use Rattle.server.proofs.ServerLaws.{head-read}

@@ -9,8 +9,9 @@ use lib.Dec.{eqb}
 use lib.ListN.{length}
 use Rattle.base.specs.Answer.{Answer, accepted, refused, given, pick}
 use Rattle.base.proofs.AnswerLaws.{both, never-refused, same-refusal}
+use Rattle.numbers.specs.Numbers.{allZero}
 use Rattle.xdr.specs.Res.{Res, ok, no, then, manyAt, asItem, whole}
-use Rattle.xdr.specs.Items.{allZero, boolAt, bytesAt, countAt, numAt, opaqueAt}
+use Rattle.xdr.specs.Items.{boolAt, bytesAt, countAt, numAt, opaqueAt}
 use Rattle.claims.specs.Statements.{isOneOf}
 
 -- ---- lists of numbers

@@ -6,9 +6,8 @@ use borrow.Author.Tests.{le-leb, lt-leb, eq-eqb, ne-eqb}
 use lib.ListN.{length}
 use Rattle.base.specs.Answer.{accepted, refused, pick}
 use Rattle.xdr.specs.Res.{ok, no, then, whole}
-use Rattle.netaddr.specs.Addresses.{addressAt, blankAddress}
-use Rattle.device_version.specs.Versions.{versionAt, blankVersion}
-use Rattle.device.specs.Bodies.{Listed, listAt, deviceAt, deviceBody}
+use Rattle.xdr.specs.Lists.{Listed}
+use Rattle.device.specs.Bodies.{addressesAt, versionsAt, deviceAt, deviceBody}
 use Rattle.netaddr.specs.declared.address.Address.{Address}
 use Rattle.device_version.specs.declared.version.Version.{Version}
 
@@ -19,23 +18,23 @@ unfolding deviceBody pick
 body-too-long s h = rw (lt-leb (length s) 2048 h)
 
 module _ (s : List ℕ) (h : length s ≤ 2048) where
-  pub addresses-refused : (k : ℕ) → listAt addressAt blankAddress s 0 ≡ no k → deviceBody s ≡ refused k
+  pub addresses-refused : (k : ℕ) → addressesAt s 0 ≡ no k → deviceBody s ≡ refused k
   unfolding deviceBody deviceAt then whole pick
   addresses-refused k e = rw (le-leb (length s) 2048 h, e)
 
-  pub versions-refused : (a : Listed Address) (p k : ℕ) → listAt addressAt blankAddress s 0 ≡ ok a p → listAt versionAt blankVersion s p ≡ no k
+  pub versions-refused : (a : Listed Address) (p k : ℕ) → addressesAt s 0 ≡ ok a p → versionsAt s p ≡ no k
       → deviceBody s ≡ refused k
   unfolding deviceBody deviceAt then whole pick
   versions-refused a p k e f = rw (le-leb (length s) 2048 h, e, f)
 
   pub bytes-left-over : (a : Listed Address) (v : Listed Version) (p q : ℕ)
-      → listAt addressAt blankAddress s 0 ≡ ok a p → listAt versionAt blankVersion s p ≡ ok v q → (q ≡ length s → ⊥)
+      → addressesAt s 0 ≡ ok a p → versionsAt s p ≡ ok v q → (q ≡ length s → ⊥)
       → deviceBody s ≡ refused 2
   unfolding deviceBody deviceAt then whole pick
   bytes-left-over a v p q e f n = rw (le-leb (length s) 2048 h, e, f, ne-eqb q (length s) n)
 
   pub body-accepted : (a : Listed Address) (v : Listed Version) (p q : ℕ)
-      → listAt addressAt blankAddress s 0 ≡ ok a p → listAt versionAt blankVersion s p ≡ ok v q → q ≡ length s
+      → addressesAt s 0 ≡ ok a p → versionsAt s p ≡ ok v q → q ≡ length s
       → deviceBody s ≡ accepted (record { addressCount = a .count; addresses = a .places; versionCount = v .count; versions = v .places })
   unfolding deviceBody deviceAt then whole pick
   body-accepted a v p q e f n = rw (le-leb (length s) 2048 h, e, f, eq-eqb q (length s) n)

@@ -2,20 +2,12 @@
 use mathlib.Core.List.{List}
 use Rattle.base.specs.Answer.{Answer, accepted, refused}
 use Rattle.base.specs.Refusals.{faultNumber}
-use Rattle.xdr.specs.Res.{Res, ok, no}
-use Rattle.xdr.specs.declared.number.ReadU32.{ReadU32}
-use Rattle.xdr.specs.declared.number.ReadU32.the-variants as u32
-use Rattle.device.specs.Bodies.{Device, Listed}
+use Rattle.device.specs.Bodies.{Device}
 use Rattle.netaddr.specs.declared.address.Address.{Address}
 use Rattle.device_version.specs.declared.version.Version.{Version}
 use Rattle.device.specs.declared.body.DeviceAnswer.{DeviceAnswer}
 use Rattle.device.specs.declared.body.DeviceAnswer.the-variants as device
 use Rattle.device.specs.declared.body.DeviceRead.{DeviceRead}
-
--- of a list, the answer is the count; the places stand beside it
-abbrev pub resOfList : {A : Type 0} → List A → ReadU32 → Res (Listed A)
-resOfList l (u32.Value n c) = ok (record { count = n; places = l }) (c .at)
-resOfList l (u32.Refused e) = no (faultNumber e)
 
 abbrev pub deviceOf : DeviceAnswer → List Address → List Version → Answer Device
 deviceOf (device.Counts m n) addresses versions =

@@ -4,25 +4,21 @@ use mathlib.Core.List.{List}
 use lib.ListN.{length, replicate}
 use lib.Dec.{leb}
 use Rattle.base.specs.Answer.{Answer, accepted, refused, pick}
-use Rattle.base.specs.Lists.{padded}
-use Rattle.xdr.specs.Res.{Res, ok, then, manyAt, whole}
-use Rattle.xdr.specs.Items.{countAt}
+use Rattle.base.specs.Limits.{mostAddresses, mostVersions}
+use Rattle.xdr.specs.Res.{Res, ok, then, whole}
+use Rattle.xdr.specs.Lists.{Listed, listAt}
 use Rattle.netaddr.specs.Addresses.{addressAt, blankAddress}
 use Rattle.device_version.specs.Versions.{versionAt, blankVersion}
 use Rattle.netaddr.specs.declared.address.Address.{Address}
 use Rattle.device_version.specs.declared.version.Version.{Version}
 
--- how many items there are, and 8 places: the items first, the others blank
-pub record Listed (A : Type 0) : Type 0 where
-  pub count : ℕ
-  pub places : List A
+-- "address count (1 to 8), each a netid (1 to 8 bytes) and an address (1 to 64 bytes)"
+abbrev pub addressesAt : List ℕ → ℕ → Res (Listed Address)
+addressesAt s at = listAt 1 mostAddresses addressAt blankAddress s at
 
--- a count from 1 to 8, and as many items
-unfoldable pub listAt : {A : Type 0} → (List ℕ → ℕ → Res A) → A → List ℕ → ℕ → Res (Listed A)
-listAt item blank s at =
-    then (countAt 1 8 s at) λ n p.
-    then (manyAt item n s p) λ l q.
-    ok (record { count = n; places = padded 8 blank l }) q
+-- "version count (1 to 8), each version, minor, rsize, wsize (4 each) and the tightly-coupled boolean"
+abbrev pub versionsAt : List ℕ → ℕ → Res (Listed Version)
+versionsAt s at = listAt 1 mostVersions versionAt blankVersion s at
 
 -- the addresses and the versions of one data server, in 8 places each
 pub record Device : Type 0 where
@@ -34,8 +30,8 @@ pub record Device : Type 0 where
 -- the body, front to back
 unfoldable pub deviceAt : List ℕ → ℕ → Res Device
 deviceAt s at =
-    then (listAt addressAt blankAddress s at) λ a p.
-    then (listAt versionAt blankVersion s p) λ v q.
+    then (addressesAt s at) λ a p.
+    then (versionsAt s p) λ v q.
     ok (record { addressCount = a .count; addresses = a .places; versionCount = v .count; versions = v .places }) q
 
 -- "At most 2,048 bytes, tested first of all; nothing may follow."

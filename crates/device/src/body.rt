@@ -17,10 +17,11 @@ ghost use mathlib.Core.List.{[]};
 ghost use lib.ListN.{replicate};
 ghost use Rattle.base.specs.Answer.{refusalIn, refused};
 ghost use Rattle.base.specs.Refusals.{faultNumber};
-ghost use Rattle.netaddr.specs.Addresses.{addressAt, blankAddress};
-ghost use Rattle.device_version.specs.Versions.{versionAt, blankVersion};
-ghost use Rattle.device.specs.Bodies.{listAt, deviceBody, addressesIn, versionsIn};
-ghost use Rattle.device.specs.Answers.{answerOfDevice, deviceOf, resOfList};
+ghost use Rattle.xdr.specs.Answers.{resOfList};
+ghost use Rattle.netaddr.specs.Addresses.{blankAddress};
+ghost use Rattle.device_version.specs.Versions.{blankVersion};
+ghost use Rattle.device.specs.Bodies.{addressesAt, versionsAt, deviceBody, addressesIn, versionsIn};
+ghost use Rattle.device.specs.Answers.{answerOfDevice, deviceOf};
 
 // How many addresses and versions there are.
 pub enum DeviceAnswer {
@@ -68,7 +69,7 @@ const NO_VERSION: Version = Version {
 };
 
 fn read_addresses(s: &[u8], c: Cursor) -> AddressList
-    ensures { λ r. ⌜ resOfList (r .places) (r .answer) ≡ listAt addressAt blankAddress (now (s .entry)) (c .at) ⌝ }
+    ensures { λ r. ⌜ resOfList (r .places) (r .answer) ≡ addressesAt (now (s .entry)) (c .at) ⌝ }
 {
     let mut places = [NO_ADDRESS; 8];
     let count = xdr::read_count(s, c, 1, MOST_ADDRESSES);
@@ -99,7 +100,7 @@ fn read_addresses(s: &[u8], c: Cursor) -> AddressList
 }
 
 fn read_versions(s: &[u8], c: Cursor) -> VersionList
-    ensures { λ r. ⌜ resOfList (r .places) (r .answer) ≡ listAt versionAt blankVersion (now (s .entry)) (c .at) ⌝ }
+    ensures { λ r. ⌜ resOfList (r .places) (r .answer) ≡ versionsAt (now (s .entry)) (c .at) ⌝ }
 {
     let mut places = [NO_VERSION; 8];
     let count = xdr::read_count(s, c, 1, MOST_VERSIONS);

@@ -1,6 +1,7 @@
 // The columns of a chart: one piece after the other.
 use base::MirrorNumber;
 use base::StripeNumber;
+use base::larger;
 use print::digits;
 
 // The bytes from an offset on, and where they go. Without mirrors there is no right.
@@ -26,13 +27,6 @@ pub(crate) fn goes_to(c: Column, m: MirrorNumber, k: StripeNumber) -> bool {
     }
     let stripe = c.stripe;
     stripe.0 == k.0
-}
-
-pub(crate) fn larger(a: u64, b: u64) -> u64 {
-    if a < b {
-        return b;
-    }
-    a
 }
 
 // How many digits the longest offset or length has, at least six.

@@ -2,7 +2,6 @@
 use crate::columns::Column;
 use crate::columns::Columns;
 use crate::columns::goes_to;
-use crate::columns::larger;
 use crate::columns::widest;
 use crate::facts::say_box_key;
 use crate::facts::say_gap_key;
@@ -12,6 +11,7 @@ use crate::subject::Subject;
 use crate::subject::device_at;
 use base::MirrorNumber;
 use base::StripeNumber;
+use base::larger;
 use layout::Summary;
 use print::say;
 use print::say_device_id;

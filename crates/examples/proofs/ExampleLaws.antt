@@ -10,7 +10,7 @@ use Rattle.base.specs.Ranges.{rangeLast, requestLast}
 use Rattle.base.proofs.AnswerLaws.{both}
 use Rattle.layout.specs.Layouts.{frontAt, layoutAt, layoutBody, mirrorAt, mirrorsAt, rows, startsOf, tailAt, unitFits}
 use Rattle.layout4.specs.Layout4s.{frameAt, layout4, layout4At, rangeAt}
-use Rattle.numbers.specs.Numbers.{beAt, beBytes, beFrom, beValue, leAt, leBytes, leValue, sameBytes}
+use Rattle.numbers.specs.Numbers.{allZero, beAt, beBytes, beFrom, beValue, leAt, leBytes, leValue, sameBytes}
 use Rattle.reference.specs.Cases.{bodyOf, grantBytes, servers}
 use Rattle.reference.specs.Model.{act, afterAt, answerTo, answers, anyByte, covers, grantOrder, ifNamed, inLowest, inSlots, meets, modelAfter, noneEmpty, own, rangeOrder, run, segmentsIn, slotOf, tooMany, verdict}
 use Rattle.reference.proofs.Examples.{HoldsOn, in-full, staysBelow}
@@ -24,7 +24,7 @@ use Rattle.route.specs.Stripes.{pieceLength, stripeOf, unitRest}
 use Rattle.segments.specs.Segments.{anyBelow, anyNames, inFront, inPlaces, isNamed, scan, segmentsOf, withByte}
 use Rattle.server.specs.Servers.{handlesAt, headAt, serverAt}
 use Rattle.store.specs.Store.{bodyIn, kindIn, lengthIn, slotBytes, storeOf}
-use Rattle.xdr.specs.Items.{allZero, bytesAt, countAt, numAt, opaqueAt}
+use Rattle.xdr.specs.Items.{bytesAt, countAt, numAt, opaqueAt}
 use Rattle.xdr.specs.Res.{asItem, manyAt, then, whole}
 use Rattle.examples.specs.Examples.{Example, Events, NoReport, Range, Write, Holds, examples}
 

@@ -5,13 +5,15 @@ use mathlib.Core.Logic.{_⊎_, ⊎-elim}
 use mathlib.Core.Bool.{true}
 use mathlib.Core.List.{List, [], _∷_, _++_, map}
 use native.Mathlib.Omega.{arith}
-use lib.ListN.{length, getD, replicate, length-append, length-map, length-replicate, List·getD-append, List·getD-eq-default}
+use lib.ListN.{length, getD, length-map, List·getD-append, List·getD-eq-default}
 use lib.Seq.{getD-append-add}
 use Rattle.base.specs.Answer.{accepted}
-use Rattle.base.specs.Lists.{padded}
+use Rattle.base.specs.Lists.{Each, padded}
+use Rattle.base.proofs.ListLaws.{each-at, each-map, length-padded, padded-at}
 use Rattle.base.proofs.AnswerLaws.{pick-accepted}
 use Rattle.xdr.specs.Res.{ok, manyAt, whole}
 use Rattle.xdr.proofs.Accepted.{passed, ran, same-place, same-value, whole-read}
+use Rattle.xdr.proofs.ManyLaws.{many-each}
 use Rattle.server.specs.Servers.{serverAt}
 use Rattle.server.specs.declared.item.Server.{Server}
 use Rattle.server.proofs.ServerLaws.{server-read}
@@ -19,7 +21,7 @@ use Rattle.layout.specs.Layouts.{Layout, frontAt, layoutAt, layoutBody, 
 use Rattle.layout.specs.declared.ends.Front.{Front}
 use Rattle.layout.specs.declared.ends.Tail.{Tail}
 use Rattle.layout.proofs.FrontLaws.{front-read}
-use Rattle.layout.proofs.TableLaws.{EachHas, mirrors-have}
+use Rattle.layout.proofs.TableLaws.{HasServers, mirrors-have}
 
 -- ---- the parts of an accepted body
 
@@ -79,30 +81,17 @@ accepted-limits s l e =
 
 -- ---- a place of the table
 
-zeros-behind : (l : List ℕ) (r i : ℕ) → getD (l ++ replicate r 0) i 0 ≡ getD l i 0
-zeros-behind [] zero i = refl
-zeros-behind [] (suc r) zero = refl
-zeros-behind [] (suc r) (suc i) = zeros-behind [] r i
-zeros-behind (x ∷ l) r zero = refl
-zeros-behind (x ∷ l) r (suc i) = zeros-behind l r i
-
 row-length : (m : List Server) → length m ≤ 16 → length (padded 16 0 (map (λ v. v .device) m)) ≡ 16
-unfolding padded
-row-length m h =
-    let k : length (map (λ v. v .device) m) ≤ 16 = omega (arith, length-map m (λ (v : Server). v .device)) in
-    simp (length-append, length-replicate) (omega arith)
+row-length m h = length-padded 16 0 (map (λ v. v .device) m) (omega (arith, length-map m (λ (v : Server). v .device)))
 
 rows-at : (ms : List (List Server)) → ((j : ℕ) → length (getD ms j []) ≤ 16) → (m k : ℕ) → k < 16
     → getD (rows ms) (m * 16 + k) 0 ≡ getD (map (λ v. v .device) (getD ms m [])) k 0
-unfolding rows padded
+unfolding rows
 rows-at [] few m k small = refl
 rows-at (row ∷ ms) few zero k small =
     let e : 0 * 16 + k ≡ k = omega arith in
     let lr : k < length (padded 16 0 (map (λ v. v .device) row)) = omega (arith, row-length row (few 0)) in
-    rw (e, List·getD-append (padded 16 0 (map (λ v. v .device) row)) (rows ms) 0 k lr) (padded-at (map (λ v. v .device) row) k)
-  where
-    padded-at : (l : List ℕ) (i : ℕ) → getD (padded 16 0 l) i 0 ≡ getD l i 0
-    padded-at l i = zeros-behind l (16 - length l) i
+    rw (e, List·getD-append (padded 16 0 (map (λ v. v .device) row)) (rows ms) 0 k lr) (padded-at 16 0 (map (λ v. v .device) row) k)
 rows-at (row ∷ ms) few (suc m) k small =
     let first = padded 16 0 (map (λ v. v .device) row) in
     let e : suc m * 16 + k ≡ length first + (m * 16 + k) = omega (arith, row-length row (few 0)) in
@@ -111,10 +100,10 @@ rows-at (row ∷ ms) few (suc m) k small =
 -- mirror times 16 plus stripe is the place of a server's start
 pub starts-at : (ms : List (List Server)) → ((j : ℕ) → length (getD ms j []) ≤ 16) → (m k : ℕ) → k < 16
     → getD (startsOf ms) (m * 16 + k) 0 ≡ getD (map (λ v. v .device) (getD ms m [])) k 0
-unfolding startsOf padded
-starts-at ms few m k small = zeros-behind (rows ms) (128 - length (rows ms)) (m * 16 + k) ∙ rows-at ms few m k small
+unfolding startsOf
+starts-at ms few m k small = padded-at 128 0 (rows ms) (m * 16 + k) ∙ rows-at ms few m k small
 
-row-has : (n : ℕ) (ms : List (List Server)) → EachHas n ms → (m : ℕ) → length (getD ms m []) ≤ n
+row-has : (n : ℕ) (ms : List (List Server)) → Each (HasServers n) ms → (m : ℕ) → length (getD ms m []) ≤ n
 row-has n [] each m = omega arith
 row-has n (row ∷ ms) each zero = omega (arith, each .0)
 row-has n (row ∷ ms) each (suc m) = row-has n ms (each .1) m
@@ -134,62 +123,41 @@ moved {s} g i = record { server = i .server; next = i .next; read = ap (λ (x : 
 abbrev pub starts : List Server → List ℕ
 starts m = map (λ v. v .device) m
 
-servers-stand : (n : ℕ) (s : List ℕ) (at : ℕ) (m : List Server) (p : ℕ) → manyAt serverAt n s at ≡ ok m p → (k : ℕ) → k < n → Stands s (getD (starts m) k 0)
-unfolding manyAt
-servers-stand zero s at m p e k h = absurd (omega arith)
-servers-stand (suc n) s at m p e zero h =
-    let r = ran _ _ m p e in
-    let t = ran _ _ m p (r .rest) in
-    let f : r .item ∷ t .item ≡ m = same-value (t .rest) in
-    let d : r .item .device ≡ at = server-read s at (r .item) (r .next) (r .first) .device in
-    let g : getD (starts m) 0 0 ≡ at = ap (λ (l : List Server). getD (starts l) 0 0) (sym f) ∙ d in
-    record { server = r .item; next = r .next; read = ap (λ (q : ℕ). serverAt s q) g ∙ r .first }
-servers-stand (suc n) s at m p e (suc k) h =
-    let r = ran _ _ m p e in
-    let t = ran _ _ m p (r .rest) in
-    let f : r .item ∷ t .item ≡ m = same-value (t .rest) in
-    let g : getD (starts (t .item)) k 0 ≡ getD (starts m) (suc k) 0 = ap (λ (l : List Server). getD (starts l) (suc k) 0) f in
-    let i = servers-stand n s (r .next) (t .item) (t .next) (t .first) k (omega arith) in
-    moved g i
+-- each of a mirror's servers stands where its start says
+abbrev Standing : List ℕ → List Server → Type 0
+Standing s m = Each (Stands s) (starts m)
 
-mirrors-stand : (n j : ℕ) (s : List ℕ) (at : ℕ) (ms : List (List Server)) (p : ℕ) → manyAt (mirrorAt n) j s at ≡ ok ms p
-    → (m k : ℕ) → m < j → k < n → Stands s (getD (starts (getD ms m [])) k 0)
-unfolding manyAt mirrorAt
-mirrors-stand n zero s at ms p e m k h small = absurd (omega arith)
-mirrors-stand n (suc j) s at ms p e zero k h small =
-    let r = ran _ _ ms p e in
-    let t = ran _ _ ms p (r .rest) in
-    let f : r .item ∷ t .item ≡ ms = same-value (t .rest) in
-    let q = ran _ _ (r .item) (r .next) (r .first) in
-    let u = passed _ _ 9 (r .item) (r .next) (q .rest) in
-    let i = servers-stand n s (q .next) (r .item) (r .next) (u .chosen) k small in
-    let g : getD (starts (r .item)) k 0 ≡ getD (starts (getD ms 0 [])) k 0 = ap (λ (l : List (List Server)). getD (starts (getD l 0 [])) k 0) f in
-    moved g i
-mirrors-stand n (suc j) s at ms p e (suc m) k h small =
-    let r = ran _ _ ms p e in
-    let t = ran _ _ ms p (r .rest) in
-    let f : r .item ∷ t .item ≡ ms = same-value (t .rest) in
-    let i = mirrors-stand n j s (r .next) (t .item) (t .next) (t .first) m k (omega arith) small in
-    let g : getD (starts (getD (t .item) m [])) k 0 ≡ getD (starts (getD ms (suc m) [])) k 0 = ap (λ (l : List (List Server)). getD (starts (getD l (suc m) [])) k 0) f in
-    moved g i
+servers-stand : (n : ℕ) (s : List ℕ) (at : ℕ) (m : List Server) (p : ℕ) → manyAt serverAt n s at ≡ ok m p → Standing s m
+servers-stand n s at m p e =
+    each-map (λ v. v .device) (Stands s) m (many-each serverAt s (λ v. Stands s (v .device)) stands n at m p e) where
+      stands : (at : ℕ) (v : Server) (p : ℕ) → serverAt s at ≡ ok v p → Stands s (v .device)
+      stands at v p e = moved (sym (server-read s at v p e .device)) (record { server = v; next = p; read = e })
 
-all-stand : (mirrors servers : ℕ) (s : List ℕ) (at : ℕ) (ms : List (List Server)) (p : ℕ) → mirrorsAt mirrors servers s at ≡ ok ms p
-    → (m k : ℕ) → m < mirrors → k < servers → Stands s (getD (starts (getD ms m [])) k 0)
+mirror-stands : (n : ℕ) (s : List ℕ) (at : ℕ) (m : List Server) (p : ℕ) → mirrorAt n s at ≡ ok m p → Standing s m
+unfolding mirrorAt
+mirror-stands n s at m p e =
+    let r = ran _ _ m p e in
+    servers-stand n s (r .next) m p (passed _ _ 9 m p (r .rest) .chosen)
+
+mirrors-stand : (mirrors servers : ℕ) (s : List ℕ) (at : ℕ) (ms : List (List Server)) (p : ℕ) → mirrorsAt mirrors servers s at ≡ ok ms p
+    → Each (Standing s) ms
 unfolding mirrorsAt
-all-stand mirrors servers s at ms p e zero k h small =
+mirrors-stand mirrors servers s at ms p e =
     let r = ran _ _ ms p e in
     let t = ran _ _ ms p (r .rest) in
-    let f : r .item ∷ t .item ≡ ms = same-value (t .rest) in
-    let i = servers-stand servers s at (r .item) (r .next) (r .first) k small in
-    let g : getD (starts (r .item)) k 0 ≡ getD (starts (getD ms 0 [])) k 0 = ap (λ (l : List (List Server)). getD (starts (getD l 0 [])) k 0) f in
-    moved g i
-all-stand mirrors servers s at ms p e (suc m) k h small =
-    let r = ran _ _ ms p e in
-    let t = ran _ _ ms p (r .rest) in
-    let f : r .item ∷ t .item ≡ ms = same-value (t .rest) in
-    let i = mirrors-stand servers (mirrors - 1) s (r .next) (t .item) (t .next) (t .first) m k (omega arith) small in
-    let g : getD (starts (getD (t .item) m [])) k 0 ≡ getD (starts (getD ms (suc m) [])) k 0 = ap (λ (l : List (List Server)). getD (starts (getD l (suc m) [])) k 0) f in
-    moved g i
+    let first = servers-stand servers s at (r .item) (r .next) (r .first) in
+    let others = many-each (mirrorAt servers) s (Standing s) (mirror-stands servers s) (mirrors - 1) (r .next) (t .item) (t .next) (t .first) in
+    rw (← same-value (t .rest)) (first, others)
+
+all-stand : (mirrors servers : ℕ) (s : List ℕ) (at : ℕ) (ms : List (List Server)) (p : ℕ) → 1 ≤ mirrors → mirrorsAt mirrors servers s at ≡ ok ms p
+    → (m k : ℕ) → m < mirrors → k < servers → Stands s (getD (starts (getD ms m [])) k 0)
+all-stand mirrors servers s at ms p some e m k hm hk =
+    let r = mirrors-have mirrors servers s at ms p some e in
+    let i : m < length ms = omega (arith, r .count) in
+    let row = getD ms m [] in
+    let long : length row ≡ servers = each-at (HasServers servers) ms m [] (r .each) i in
+    let j : k < length (starts row) = omega (arith, length-map row (λ (v : Server). v .device)) in
+    each-at (Stands s) (starts row) k 0 (each-at (Standing s) ms m [] (mirrors-stand mirrors servers s at ms p e) i) j
 
 -- the place of mirror m and stripe k in the table
 place-of : (s : List ℕ) (l : Layout) (h : layoutBody s ≡ accepted l) (m k : ℕ) → k < 16
@@ -209,7 +177,7 @@ start-stands s l h m k hm hk =
     let n = accepted-limits s l h in
     let em : p .front .mirrors ≡ l .summary .mirrors = ap (λ (x : Layout). x .summary .mirrors) (p .whole) in
     let en : p .front .servers ≡ l .summary .servers = ap (λ (x : Layout). x .summary .servers) (p .whole) in
-    let i = all-stand (p .front .mirrors) (p .front .servers) s (p .p1) (p .mirrors) (p .p2) (p .mirrors-read) m k (omega arith) (omega arith) in
+    let i = all-stand (p .front .mirrors) (p .front .servers) s (p .p1) (p .mirrors) (p .p2) (omega (arith, n .mirrors-some)) (p .mirrors-read) m k (omega arith) (omega arith) in
     let g = place-of s l h m k (omega (arith, n .servers-few)) in
     moved (sym g) i
 

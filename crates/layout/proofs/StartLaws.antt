@@ -7,6 +7,7 @@ use native.Mathlib.Omega.{arith}
 use lib.ListN.{set}
 use lib.Seq.{sets}
 use Rattle.xdr.specs.Res.{Res, ok, no, then, manyAt}
+use Rattle.xdr.proofs.ManyLaws.{first-then, none-then, refused-then}
 use Rattle.server.specs.Servers.{serverAt}
 use Rattle.server.specs.declared.item.Server.{Server}
 use Rattle.layout.specs.Layouts.{mirrorAt}
@@ -14,28 +15,20 @@ use Rattle.layout.specs.Starts.{setRows, withMirrors, withServers}
 
 -- ---- servers of one mirror
 
-pub servers-none : (n k : ℕ) (s : List ℕ) (at : ℕ) (t : List ℕ) → n ≡ 0 → withServers k (manyAt serverAt n s at) t ≡ ok t at
-unfolding withServers manyAt
-servers-none n k s at t h = rw h
+module _ (n k : ℕ) (s : List ℕ) (at : ℕ) (t : List ℕ) where
+  pub servers-none : n ≡ 0 → withServers k (manyAt serverAt n s at) t ≡ ok t at
+  unfolding withServers
+  servers-none h = none-then serverAt n s at _ h
 
-pub servers-refused : (n k : ℕ) (s : List ℕ) (at : ℕ) (t : List ℕ) (e : ℕ) → 0 < n → serverAt s at ≡ no e → withServers k (manyAt serverAt n s at) t ≡ no e
-unfolding withServers manyAt then
-servers-refused zero k s at t e h q = absurd (omega arith)
-servers-refused (suc n) k s at t e h q = rw q
+  pub servers-refused : (e : ℕ) → 0 < n → serverAt s at ≡ no e → withServers k (manyAt serverAt n s at) t ≡ no e
+  unfolding withServers
+  servers-refused e h q = refused-then serverAt n s at _ e h q
 
-server-stored : (x : Res (List Server)) (k : ℕ) (t : List ℕ) (v : Server)
-    → withServers k (then x λ rest q. ok (v ∷ rest) q) t ≡ withServers (suc k) x (set t k (v .device))
-unfolding withServers then
-server-stored (ok rest q) k t v = refl
-server-stored (no n) k t v = refl
-
-pub servers-next : (n k : ℕ) (s : List ℕ) (at : ℕ) (t : List ℕ) (v : Server) (p : ℕ) → 0 < n → serverAt s at ≡ ok v p → v .device ≡ at
-    → withServers k (manyAt serverAt n s at) t ≡ withServers (k + 1) (manyAt serverAt (n - 1) s p) (set t k at)
-unfolding manyAt then
-servers-next zero k s at t v p h q d = absurd (omega arith)
-servers-next (suc n) k s at t v p h q d =
-    let f : suc n - 1 ≡ n = omega arith in
-    rw (q, f, add-one) (server-stored (manyAt serverAt n s p) k t v ∙ ap (λ (x : ℕ). withServers (suc k) (manyAt serverAt n s p) (set t k x)) d)
+  pub servers-next : (v : Server) (p : ℕ) → 0 < n → serverAt s at ≡ ok v p → v .device ≡ at
+      → withServers k (manyAt serverAt n s at) t ≡ withServers (k + 1) (manyAt serverAt (n - 1) s p) (set t k at)
+  unfolding withServers
+  servers-next v p h q d =
+      rw add-one (first-then serverAt n s at _ v p h q ∙ ap (λ (x : ℕ). withServers (suc k) (manyAt serverAt (n - 1) s p) (set t k x)) d)
 
 -- ---- mirrors
 
@@ -62,8 +55,8 @@ row-refused k (no m) f t n h = let e : m ≡ n = cc in rw e
 
 module _ (servers : ℕ) (s : List ℕ) where
   pub mirrors-none : (n k at : ℕ) (t : List ℕ) → n ≡ 0 → withMirrors k (manyAt (mirrorAt servers) n s at) t ≡ ok t at
-  unfolding withMirrors setRows manyAt
-  mirrors-none n k at t h = rw h
+  unfolding withMirrors setRows
+  mirrors-none n k at t h = none-then (mirrorAt servers) n s at _ h
 
   pub mirrors-refused : (n k at : ℕ) (t : List ℕ) (e : ℕ) → 0 < n → withServers k (mirrorAt servers s at) t ≡ no e
       → withMirrors k (manyAt (mirrorAt servers) n s at) t ≡ no e

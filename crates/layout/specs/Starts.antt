@@ -3,7 +3,7 @@ use Prim.Native.Nat.{ℕ, _+_}
 use mathlib.Core.List.{List, [], _∷_, map}
 use lib.Seq.{sets}
 use Rattle.base.specs.Refusals.{faultNumber}
-use Rattle.xdr.specs.Res.{Res, ok, no}
+use Rattle.xdr.specs.Res.{Res, ok, no, then}
 use Rattle.server.specs.declared.item.Server.{Server}
 use Rattle.xdr.specs.declared.end.ReadEnd.{ReadEnd}
 use Rattle.xdr.specs.declared.end.ReadEnd.the-variants.{Value, Refused}
@@ -15,8 +15,7 @@ resOfStarts (Refused e) table = no (faultNumber e)
 
 -- the starts of a mirror's servers from the index k on
 unfoldable pub withServers : ℕ → Res (List Server) → List ℕ → Res (List ℕ)
-withServers k (ok servers at) table = ok (sets table k (map (λ v. v .device) servers)) at
-withServers k (no n) table = no n
+withServers k x table = then x λ servers at. ok (sets table k (map (λ v. v .device) servers)) at
 
 -- each mirror 16 places behind the one before
 unfoldable pub setRows : List ℕ → ℕ → List (List Server) → List ℕ
@@ -24,5 +23,4 @@ setRows table k [] = table
 setRows table k (m ∷ ms) = setRows (sets table k (map (λ v. v .device) m)) (k + 16) ms
 
 unfoldable pub withMirrors : ℕ → Res (List (List Server)) → List ℕ → Res (List ℕ)
-withMirrors k (ok mirrors at) table = ok (setRows table k mirrors) at
-withMirrors k (no n) table = no n
+withMirrors k x table = then x λ mirrors at. ok (setRows table k mirrors) at

@@ -4,11 +4,12 @@ use mathlib.Core.Path.{_≡_, refl}
 use mathlib.Core.Bool.{Bool, true, false}
 use mathlib.Core.List.{List}
 use native.Mathlib.Omega.{arith}
-use borrow.Author.Tests.{eq-eqb, leb-false, leb-true, ne-eqb}
+use borrow.Author.Tests.{eq-eqb, le-leb, leb-true, ne-eqb}
 use lib.Dec.{leb}
 use lib.ListN.{length, replicate}
 use Rattle.base.specs.Answer.{Answer, accepted, refused, pick}
 use Rattle.base.specs.Refusals.{faultNumber}
+use Rattle.base.proofs.AnswerLaws.{same-tests}
 use Rattle.base.specs.declared.refusal.Fault.{Fault}
 use Rattle.numbers.specs.Numbers.{bytesFrom}
 use Rattle.xdr.specs.Res.{ok, no, then, asItem, whole}
@@ -75,9 +76,4 @@ accepted-whole l b t x q = (rw q, rw q)
 
 -- two tests that hold together
 pub same-test : (a b c d : ℕ) → (a ≤ b → c ≤ d) → (c ≤ d → a ≤ b) → leb a b ≡ leb c d
-same-test a b c d f g = go (leb a b) (leb c d) refl refl where
-  go : (t u : Bool) → leb a b ≡ t → leb c d ≡ u → t ≡ u
-  go true true h k = refl
-  go false false h k = refl
-  go true false h k = absurd (omega (arith, f (leb-true a b h), leb-false c d k))
-  go false true h k = absurd (omega (arith, g (leb-true c d k), leb-false a b h))
+same-test a b c d f g = same-tests (leb a b) (leb c d) (λ h. le-leb c d (f (leb-true a b h))) (λ h. le-leb a b (g (leb-true c d h)))

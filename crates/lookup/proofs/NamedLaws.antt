@@ -1,24 +1,20 @@
 -- Laws of the slots that segments name: a slot marked, segment after segment, and what stands in each of the eight places.
 use Prim.Native.Nat.{ℕ, zero, suc, _+_, _≤_, _<_}
 use mathlib.Core.Path.{_≡_, refl, sym, ap, _∙_}
-use mathlib.Core.Bool.{Bool, true, false, _||_}
-use mathlib.Core.List.{List}
+use mathlib.Core.Bool.{Bool, true, false, _||_, or-assoc, or-comm, or-false}
+use mathlib.Core.List.{List, []}
 use native.Mathlib.Omega.{arith}
 use borrow.Author.Tests.{eqb-false, eqb-true, ne-eqb}
 use lib.Dec.{eqb}
 use lib.ListN.{length, drop, getD, replicate, set}
 use lib.Seq.{ext-getD, getD-set-other, getD-set-same}
+use Rattle.base.proofs.ListLaws.{default-behind}
 use Rattle.segments.specs.declared.Segment.{Segment}
 use Rattle.segments.specs.declared.Segments.{Segments}
 use Rattle.segments.specs.declared.Table.{Table}
 use Rattle.segments.specs.Segments.{READ, RW, anyNames, isNamed, isOfSlot, listIn, listOf}
-use Rattle.lookup.proofs.LookupLaws.{names-next, names-none}
+use Rattle.lookup.proofs.LookupLaws.{next-segment, no-segment}
 use Rattle.lookup.specs.Lookup.{namedSlots}
-
-or-swap : (a b c : Bool) → ((a || b) || c) ≡ (b || (a || c))
-or-swap true true c = refl
-or-swap true false c = refl
-or-swap false b c = refl
 
 -- ---- one slot
 
@@ -35,10 +31,15 @@ not-marked l k i h b = rw (ne-eqb i k (λ e. omega (arith, e)))
 
 pub marked-next : (i : ℕ) (g : Segments) (k : ℕ) (d : Segment) (b : Bool) → k < length (listOf g)
     → (anyNames i (drop k (listOf g)) || b) ≡ (anyNames i (drop (k + 1) (listOf g)) || (isOfSlot i (getD (g .items) k d .right) || b))
-marked-next i g k d b h = ap (λ (x : Bool). x || b) (names-next i g k d h) ∙ or-swap (isOfSlot i (getD (g .items) k d .right)) (anyNames i (drop (k + 1) (listOf g))) b
+unfolding anyNames
+marked-next i g k d b h =
+    let here = isOfSlot i (getD (g .items) k d .right) in
+    let behind = anyNames i (drop (k + 1) (listOf g)) in
+    rw (next-segment g k d h) (ap (λ (x : Bool). x || b) (or-comm here behind) ∙ or-assoc behind here b)
 
 pub marked-all : (i : ℕ) (g : Segments) (k : ℕ) (b : Bool) → length (listOf g) ≤ k → (anyNames i (drop k (listOf g)) || b) ≡ b
-marked-all i g k b h = ap (λ (x : Bool). x || b) (names-none i g k h)
+unfolding anyNames
+marked-all i g k b h = rw (no-segment g k h)
 
 -- ---- the eight places
 
@@ -54,25 +55,12 @@ named-at t (suc (suc (suc (suc (suc (suc zero)))))) h = refl
 named-at t (suc (suc (suc (suc (suc (suc (suc zero))))))) h = refl
 named-at t (suc (suc (suc (suc (suc (suc (suc (suc i)))))))) h = absurd (omega (arith, h))
 
-none-marked : (n i : ℕ) → getD (replicate n false) i false ≡ false
-none-marked zero i = refl
-none-marked (suc n) zero = refl
-none-marked (suc n) (suc i) = none-marked n i
-
 pub read-marked : (t : Table) (i : ℕ) → (anyNames i (listIn t READ) || getD (replicate 8 false) i false) ≡ anyNames i (listIn t READ)
-read-marked t i = rw (none-marked 8 i) (go (anyNames i (listIn t READ))) where
-  go : (b : Bool) → (b || false) ≡ b
-  go true = refl
-  go false = refl
+read-marked t i = rw (default-behind [] 8 i false) (or-false (anyNames i (listIn t READ)))
 
 pub rw-marked : (t : Table) (i : ℕ) → (anyNames i (listIn t RW) || anyNames i (listIn t READ)) ≡ isNamed t i
 unfolding isNamed
-rw-marked t i = go (anyNames i (listIn t RW)) (anyNames i (listIn t READ)) where
-  go : (a b : Bool) → (a || b) ≡ (b || a)
-  go true true = refl
-  go true false = refl
-  go false true = refl
-  go false false = refl
+rw-marked t i = or-comm (anyNames i (listIn t RW)) (anyNames i (listIn t READ))
 
 pub all-named : (t : Table) (l : List Bool) → length l ≡ 8 → ((i : ℕ) → i < 8 → getD l i false ≡ isNamed t i) → l ≡ namedSlots t
 unfolding namedSlots

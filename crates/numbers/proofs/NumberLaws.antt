@@ -1,13 +1,16 @@
 -- Laws of numbers as bytes, each over the width: the first byte and the rest, two parts, what is written is read back, what is read is written
 -- back.
-use Prim.Native.Nat.{ℕ, zero, suc, _+_, _*_, _/_, _%_, _^_, _≤_, _<_}
+use Prim.Native.Nat.{ℕ, zero, suc, _+_, _-_, _*_, _/_, _%_, _^_, _≤_, _<_}
 use mathlib.Core.Path.{_≡_, refl, sym, ap, _∙_}
 use mathlib.Core.List.{List, [], _∷_, _++_}
 use native.Mathlib.Nat.{pow-suc, add-mul, mul-assoc, mul-comm, div-add-mod', div-lt-iff-lt-mul}
+use native.Mathlib.Numerals.{add-one}
 use native.Mathlib.Omega.{arith}
-use lib.ListN.{length, take, drop, getD, length-append, length-take, length-drop}
-use lib.Seq.{drop-cons, take-add, take-all, take-suc, drop-drop, getD-drop}
-use Rattle.numbers.specs.Numbers.{AllBytes, bytesFrom, beFrom, beValue, beBytes, leValue, leBytes}
+use borrow.Author.Tests.{le-leb, lt-leb}
+use lib.ListN.{length, take, drop, getD, drop-of-length-le, length-append, length-take, length-drop, take-append-drop}
+use lib.Seq.{drop-cons, take-add, take-all, take-nil, take-suc, drop-drop, getD-drop}
+use Rattle.base.specs.Answer.{pick}
+use Rattle.numbers.specs.Numbers.{AllBytes, beAt, bytesFrom, leAt, beFrom, beValue, beBytes, leValue, leBytes}
 
 -- ---- bytes of a list
 
@@ -19,6 +22,26 @@ two-parts j k s at = rw (take-add j k (drop at s), drop-drop)
 
 pub length-bytes : (k : ℕ) (s : List ℕ) (at : ℕ) → at + k ≤ length s → length (bytesFrom k s at) ≡ k
 length-bytes k s at h = simp (length-take, length-drop) (omega arith)
+
+-- the last byte apart
+pub last-of-run : (i : ℕ) (s : List ℕ) (at : ℕ) → at + i < length s → bytesFrom (i + 1) s at ≡ bytesFrom i s at ++ (getD s (at + i) 0 ∷ [])
+last-of-run i s at h =
+    let k : i < length (drop at s) = simp length-drop (omega arith) in
+    rw (add-one i, take-suc (drop at s) i 0 k, getD-drop)
+
+-- the k bytes from a place, and what is behind them
+pub run-first : (k : ℕ) (s : List ℕ) (at : ℕ) → drop at s ≡ bytesFrom k s at ++ drop (at + k) s
+run-first k s at = sym (take-append-drop k (drop at s)) ∙ ap (λ (l : List ℕ). bytesFrom k s at ++ l) (drop-drop k at s)
+
+-- bytes that run out
+pub none-left : (k : ℕ) (s : List ℕ) (at : ℕ) → length s ≤ at → bytesFrom k s at ≡ []
+none-left k s at h = rw (drop-of-length-le s h) (take-nil k)
+
+pub fewer-left : (k : ℕ) (s : List ℕ) (at : ℕ) → length s - at ≤ k → bytesFrom (length s - at) s at ≡ bytesFrom k s at
+fewer-left k s at h =
+    let a : length (drop at s) ≤ length s - at = simp length-drop (omega arith) in
+    let b : length (drop at s) ≤ k = simp length-drop (omega arith) in
+    take-all (length s - at) (drop at s) a ∙ sym (take-all k (drop at s) b)
 
 -- the byte i places on, and the k behind it
 next-byte : (i k : ℕ) (s : List ℕ) (at : ℕ) → at + i < length s → bytesFrom (suc k) s (at + i) ≡ getD s (at + i) 0 ∷ bytesFrom k s (at + suc i)
@@ -40,6 +63,25 @@ two-bytes s at h =
     let h1 : at + 1 < length s = omega arith in
     let e : suc at ≡ at + 1 = omega arith in
     rw (first-byte 1 s at h0, e, next-byte 1 0 s at h1)
+
+-- ---- a number at a place
+
+module _ (k : ℕ) (s : List ℕ) (at : ℕ) where
+  pub be-short : length s < at + k → beAt k s at ≡ 0
+  unfolding beAt pick
+  be-short h = rw (lt-leb _ _ h)
+
+  pub le-short : length s < at + k → leAt k s at ≡ 0
+  unfolding leAt pick
+  le-short h = rw (lt-leb _ _ h)
+
+  pub be-there : at + k ≤ length s → beAt k s at ≡ beValue (bytesFrom k s at)
+  unfolding beAt pick
+  be-there h = rw (le-leb _ _ h)
+
+  pub le-there : at + k ≤ length s → leAt k s at ≡ leValue (bytesFrom k s at)
+  unfolding leAt pick
+  le-there h = rw (le-leb _ _ h)
 
 -- ---- a number in two parts
 

@@ -1,15 +1,14 @@
 -- Laws of equal runs of bytes: the test says that two lists are equal, and goes by lengths, then block by block.
 use Prim.Native.Nat.{ℕ, _+_, _≤_, _<_}
 use mathlib.Core.Path.{_≡_, refl, sym, ap, ap₂, _∙_}
-use mathlib.Core.Bool.{Bool, true, false, _&&_, false≢true}
+use mathlib.Core.Bool.{Bool, true, false, _&&_, and-assoc, and-true, false≢true}
 use mathlib.Core.List.{List, [], _∷_, _++_}
 use borrow.Author.Tests.{eqb-true, eq-eqb}
 use lib.Dec.{eqb}
-use lib.ListN.{length, take, drop, getD, length-drop, length-take, take-append-drop}
-use lib.Seq.{drop-drop, getD-drop, take-suc}
-use native.Mathlib.Numerals.{add-one}
+use lib.ListN.{length, drop, getD, length-drop, length-take}
 use native.Mathlib.Omega.{arith}
 use Rattle.numbers.specs.Numbers.{bytesFrom, sameBytes}
+use Rattle.numbers.proofs.NumberLaws.{last-of-run, run-first}
 
 pub same-true : (xs ys : List ℕ) → sameBytes xs ys ≡ true → xs ≡ ys
 unfolding sameBytes
@@ -32,18 +31,11 @@ unfolding sameBytes
 same-append [] [] xs2 ys2 h = refl
 same-append [] (y ∷ ys) xs2 ys2 h = absurd (omega (arith, h))
 same-append (x ∷ xs) [] xs2 ys2 h = absurd (omega (arith, h))
-same-append (x ∷ xs) (y ∷ ys) xs2 ys2 h = go (eqb x y) (same-append xs ys xs2 ys2 (omega (arith, h))) where
-  go : (t : Bool) → sameBytes (xs ++ xs2) (ys ++ ys2) ≡ (sameBytes xs ys && sameBytes xs2 ys2)
-      → (t && sameBytes (xs ++ xs2) (ys ++ ys2)) ≡ ((t && sameBytes xs ys) && sameBytes xs2 ys2)
-  go true e = e
-  go false e = refl
+same-append (x ∷ xs) (y ∷ ys) xs2 ys2 h = rw (same-append xs ys xs2 ys2 (omega (arith, h)), and-assoc (eqb x y) (sameBytes xs ys) (sameBytes xs2 ys2))
 
 same-one : (x y : ℕ) → sameBytes (x ∷ []) (y ∷ []) ≡ eqb x y
 unfolding sameBytes
-same-one x y = go (eqb x y) where
-  go : (t : Bool) → (t && true) ≡ t
-  go true = refl
-  go false = refl
+same-one x y = and-true (eqb x y)
 
 same-long : (n at : ℕ) (s t : List ℕ) → length s ≡ length t → length (bytesFrom n s at) ≡ length (bytesFrom n t at)
 same-long n at s t h = simp (length-take, length-drop, h) refl
@@ -56,25 +48,14 @@ pub one-more : (s t : List ℕ) (at i : ℕ) → at + i < length s → at + i < 
     → sameBytes (bytesFrom (i + 1) s at) (bytesFrom (i + 1) t at)
     ≡ (sameBytes (bytesFrom i s at) (bytesFrom i t at) && eqb (getD s (at + i) 0) (getD t (at + i) 0))
 one-more s t at i h k =
-    let hs : i < length (drop at s) = simp length-drop (omega arith) in
-    let ht : i < length (drop at t) = simp length-drop (omega arith) in
-    let e : length (take i (drop at s)) ≡ length (take i (drop at t)) = simp (length-take, length-drop) (omega arith) in
-    rw (
-      add-one i,
-      take-suc (drop at s) i 0 hs,
-      take-suc (drop at t) i 0 ht,
-      same-append (take i (drop at s)) (take i (drop at t)) (getD (drop at s) i 0 ∷ []) (getD (drop at t) i 0 ∷ []) e,
-      same-one (getD (drop at s) i 0) (getD (drop at t) i 0),
-      getD-drop,
-      getD-drop,
-    )
+    let e : length (bytesFrom i s at) ≡ length (bytesFrom i t at) = simp (length-take, length-drop) (omega arith) in
+    rw (last-of-run i s at h, last-of-run i t at k, same-append (bytesFrom i s at) (bytesFrom i t at) _ _ e, same-one)
 
 pub block-first : (n at : ℕ) (s t : List ℕ) → length s ≡ length t
     → sameBytes (drop at s) (drop at t) ≡ (sameBytes (bytesFrom n s at) (bytesFrom n t at) && sameBytes (drop (at + n) s) (drop (at + n) t))
 block-first n at s t h =
-    sym (ap₂ sameBytes (take-append-drop n (drop at s)) (take-append-drop n (drop at t)))
-    ∙ same-append (take n (drop at s)) (take n (drop at t)) (drop n (drop at s)) (drop n (drop at t)) (same-long n at s t h)
-    ∙ ap₂ (λ (x y : List ℕ). sameBytes (take n (drop at s)) (take n (drop at t)) && sameBytes x y) (drop-drop n at s) (drop-drop n at t)
+    ap₂ sameBytes (run-first n s at) (run-first n t at)
+    ∙ same-append (bytesFrom n s at) (bytesFrom n t at) (drop (at + n) s) (drop (at + n) t) (same-long n at s t h)
 
 pub same-refl : (b : List ℕ) → sameBytes b b ≡ true
 unfolding sameBytes

@@ -1,4 +1,4 @@
--- Numbers as bytes, for every width, in both byte orders; runs of bytes compared.
+-- Numbers as bytes, for every width, in both byte orders; runs of bytes that are zero or equal.
 use Prim.Native.Nat.{ℕ, zero, suc, _+_, _*_, _/_, _%_, _<_}
 use mathlib.Core.List.{List, [], _∷_, _++_}
 use lib.ListN.{length, take, drop, getD}
@@ -44,6 +44,11 @@ beAt k s at = pick (leb (at + k) (length s)) (beValue (bytesFrom k s at)) 0
 
 unfoldable pub leAt : ℕ → List ℕ → ℕ → ℕ
 leAt k s at = pick (leb (at + k) (length s)) (leValue (bytesFrom k s at)) 0
+
+-- whether each byte is 0
+unfoldable pub allZero : List ℕ → Bool
+allZero [] = true
+allZero (b ∷ bs) = eqb b 0 && allZero bs
 
 -- whether two lists are of one length and equal in each byte
 unfoldable pub sameBytes : List ℕ → List ℕ → Bool

@@ -1,13 +1,7 @@
 // Numbers of 2, 4 and 8 bytes at a place of a slice; 0 where the bytes run out.
+use base::wide8;
 ghost use mathlib.Core.Path.{_≡_};
-ghost use Prim.Native.Nat.{_<_};
 ghost use Rattle.numbers.specs.Numbers.{beAt, leAt};
-
-fn wide(x: u8) -> u32
-    ensures { λ r. ⌜ (r ≡ x) × (r < 256) ⌝ }
-{
-    x as u32
-}
 
 // Written out, since it then compiles to one load and a byte swap.
 pub fn be4(s: &[u8], at: usize) -> u32
@@ -19,10 +13,10 @@ pub fn be4(s: &[u8], at: usize) -> u32
     if s.len() - at < 4 {
         return 0;
     }
-    let a = wide(s[at]);
-    let b = wide(s[at + 1]);
-    let c = wide(s[at + 2]);
-    let d = wide(s[at + 3]);
+    let a = wide8(s[at]);
+    let b = wide8(s[at + 1]);
+    let c = wide8(s[at + 2]);
+    let d = wide8(s[at + 3]);
     ((a * 256 + b) * 256 + c) * 256 + d
 }
 
@@ -49,8 +43,8 @@ pub fn le2(s: &[u8], at: usize) -> u32
     if s.len() - at < 2 {
         return 0;
     }
-    let a = wide(s[at]);
-    let b = wide(s[at + 1]);
+    let a = wide8(s[at]);
+    let b = wide8(s[at + 1]);
     b * 256 + a
 }
 
@@ -63,10 +57,10 @@ pub fn le4(s: &[u8], at: usize) -> u32
     if s.len() - at < 4 {
         return 0;
     }
-    let a = wide(s[at]);
-    let b = wide(s[at + 1]);
-    let c = wide(s[at + 2]);
-    let d = wide(s[at + 3]);
+    let a = wide8(s[at]);
+    let b = wide8(s[at + 1]);
+    let c = wide8(s[at + 2]);
+    let d = wide8(s[at + 3]);
     ((d * 256 + c) * 256 + b) * 256 + a
 }
 

@@ -3,6 +3,7 @@ mod cell;
 
 use base::Fault;
 use base::Refusal;
+use base::wide8;
 pub use cell::digits;
 pub use cell::say_right;
 pub use cell::say_times;
@@ -63,16 +64,12 @@ pub fn say_fields(text: &[u8], values: &[u64]) {
     }
 }
 
-fn wide(x: u8) -> u64 {
-    x as u64
-}
-
 // Each byte as two digits, eight bytes at a time while there are as many.
 pub fn say_hex(bytes: &[u8]) {
     let mut i: usize = 0;
     while i < bytes.len() {
         if bytes.len() - i < 8 {
-            io::print_hex(STDOUT_FILENO, wide(bytes[i]), 2);
+            io::print_hex(STDOUT_FILENO, wide8(bytes[i]) as u64, 2);
             i += 1;
         } else {
             io::print_hex(STDOUT_FILENO, numbers::be8(bytes, i), 16);

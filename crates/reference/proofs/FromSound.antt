@@ -25,7 +25,7 @@ use Rattle.segments.proofs.Fewest.{same-segment, scan-only}
 use Rattle.segments.proofs.ScanLaws.{any-found, segments-ext}
 use Rattle.segments.proofs.SegmentTests.{names-scan}
 use Rattle.store.specs.Store.{Body, empty, holds, bodyIn, kindIn, lengthIn, slotAt, slotBytes, storeOf}
-use Rattle.store.proofs.ZeroLaws.{zeros-are}
+use Rattle.numbers.proofs.ZeroLaws.{zeros-are}
 use Rattle.reference.specs.Model.{anyByte, isUnder, segmentsIn, tableOf}
 use Rattle.reference.specs.Sound.{allBlank, apart, apartFromNext, hasSlot, inOrder, isBlank, segmentsSound, slotSound, slotsFrom, slotsIn, slotsSound, sound}
 use Rattle.reference.specs.Claim.{rightIn}

@@ -10,7 +10,7 @@ use borrow.Author.Tests.{leb-true, lt-leb}
 use lib.Dec.{leb, ltb}
 use lib.ListN.{length}
 use Rattle.base.specs.Answer.{Answer, accepted, refused, pick}
-use Rattle.base.proofs.AnswerLaws.{both}
+use Rattle.base.proofs.AnswerLaws.{both, same-tests}
 use Rattle.segments.specs.declared.Right.{Right}
 use Rattle.segments.specs.declared.Right.the-variants.{None}
 use Rattle.segments.specs.declared.Segment.{Segment}
@@ -18,7 +18,6 @@ use Rattle.segments.specs.Segments.{Mode, READ, RW, actsOn, anyBelow, rightAt, 
 use Rattle.segments.proofs.Canon.{below-more}
 use Rattle.segments.proofs.Fewest.{scan-only}
 use Rattle.segments.proofs.ScanLaws.{any-found, any-some, segments-below, segments-canon, segments-past, segments-show}
-use Rattle.segments.proofs.SegmentTests.{same-tests}
 use Rattle.store.specs.Store.{Slot, empty, holds}
 use Rattle.reference.specs.Model.{ByteRight, none, Deed, grants, returns, recalls, revokes, Event, Model, Order, act, afterAt, answerTo, answers, anyByte, byOwn, covers, ifAccepted, ifNamed, isHeld, isUnder, meets, modelAfter, own, placed, rightAfter, run, segmentsIn, start, stops21, stops22, stops25, tooMany, verdict, withSlot}
 

@@ -10,7 +10,7 @@ use lib.Dec.{leb, eqb}
 use lib.ListN.{length, drop, getD}
 use Rattle.base.specs.Answer.{pick}
 use Rattle.base.proofs.AnswerLaws.{both}
-use Rattle.xdr.specs.Items.{allZero}
+use Rattle.numbers.specs.Numbers.{allZero}
 use Rattle.layout.specs.Layouts.{layoutBody}
 use Rattle.segments.specs.declared.Segment.{Segment}
 use Rattle.segments.specs.declared.Segments.{Segments}

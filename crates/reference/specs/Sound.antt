@@ -5,7 +5,7 @@ use mathlib.Core.List.{List, [], _∷_}
 use lib.ListN.{length, drop}
 use lib.Dec.{leb, ltb, eqb}
 use Rattle.base.specs.Answer.{Answer, accepted, refused, pick}
-use Rattle.xdr.specs.Items.{allZero}
+use Rattle.numbers.specs.Numbers.{allZero}
 use Rattle.layout.specs.Layouts.{layoutBody}
 use Rattle.segments.specs.declared.Right.{Right}
 use Rattle.segments.specs.declared.Right.the-variants.{None, Granted, Recalled}

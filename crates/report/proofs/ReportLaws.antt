@@ -7,17 +7,35 @@ use borrow.Author.Tests.{eq-eqb}
 use lib.ListN.{length, set, length-map, length-take, length-drop}
 use lib.Seq.{append-snoc}
 use Rattle.base.specs.Answer.{Answer, accepted, refused, given, pick}
+use Rattle.base.proofs.ListLaws.{padded-next}
 use Rattle.numbers.specs.Numbers.{bytesFrom}
 use Rattle.numbers.proofs.NumberLaws.{length-bytes}
-use Rattle.xdr.specs.Res.{Res, ok, no, then, whole, manyAt}
+use Rattle.xdr.specs.Res.{Res, ok, no, then, whole, manyAt, endOf}
 use Rattle.xdr.specs.Items.{countAt}
 use Rattle.xdr.specs.declared.Part.{Part}
 use Rattle.xdr.proofs.Accepted.{bytes-read, ran, same-value, same-place}
-use Rattle.report.specs.Reports.{headAt, Report, reportAt, reportBody}
+use Rattle.xdr.proofs.EndLaws.{end-goes-on}
+use Rattle.xdr.proofs.ManyLaws.{first-then, none-then, refused-then}
+use Rattle.report.specs.Reports.{errorAt, headAt, Report, reportAt, reportBody}
 use Rattle.report.specs.Answers.{arraysFrom, blankHead, countOf, headFrom, headsOf, placesOf, reportsIn}
 use Rattle.report.specs.declared.ReportHead.{ReportHead}
 use Rattle.report.specs.declared.head.HeadItem.{HeadItem}
-use Rattle.report.proofs.Runs.{many-none, many-then, padded-next}
+
+-- ---- where a report's errors end
+
+abbrev reported : ReportHead → ℕ → ℕ → Res Report
+reported h p q = ok (record { head = h; errors-at = p }) q
+
+-- a report by the place where its errors end
+pub report-ends : (s : List ℕ) (at : ℕ)
+    → reportAt s at ≡ then (headAt s at) (λ h p. then (endOf (manyAt errorAt (h .errors) s p)) λ u q. reported h p q)
+unfolding reportAt then
+report-ends s at = go (headAt s at) where
+  go : (x : Res ReportHead)
+      → then x (λ h p. then (manyAt errorAt (h .errors) s p) λ es q. reported h p q)
+      ≡ then x (λ h p. then (endOf (manyAt errorAt (h .errors) s p)) λ u q. reported h p q)
+  go (ok h p) = sym (end-goes-on (manyAt errorAt (h .errors) s p) (λ q. reported h p q))
+  go (no n) = refl
 
 -- ---- the arrays
 
@@ -26,38 +44,29 @@ pub heads-next : (done : List Report) (i : ℕ) (r : Report) → length done ≡
 heads-next done i r h k =
     let f : Report → ReportHead = λ r. r .head in
     let n : length (map f done) ≡ i = length-map done f ∙ h in
-    rw (map-append f done (r ∷ [])) (padded-next blankHead (map f done) i (r .head) n k)
+    rw (map-append f done (r ∷ [])) (padded-next 8 blankHead (map f done) i (r .head) n k)
 
 pub places-next : (done : List Report) (i : ℕ) (r : Report) → length done ≡ i → i < 8
     → set (placesOf done) i (r .errors-at) ≡ placesOf (done ++ (r ∷ []))
 places-next done i r h k =
     let f : Report → ℕ = λ r. r .errors-at in
     let n : length (map f done) ≡ i = length-map done f ∙ h in
-    rw (map-append f done (r ∷ [])) (padded-next 0 (map f done) i (r .errors-at) n k)
-
-abbrev arrays : List Report → ℕ → Res (List ReportHead × List ℕ)
-arrays rs q = ok (headsOf rs, placesOf rs) q
+    rw (map-append f done (r ∷ [])) (padded-next 8 0 (map f done) i (r .errors-at) n k)
 
 pub arrays-next : (done : List Report) (m : ℕ) (s : List ℕ) (at : ℕ) (r : Report) (p : ℕ) → 0 < m → reportAt s at ≡ ok r p
     → arraysFrom done (manyAt reportAt m s at) ≡ arraysFrom (done ++ (r ∷ [])) (manyAt reportAt (m - 1) s p)
-unfolding arraysFrom then
-arrays-next done m s at r p h e =
-    rw (many-then reportAt m s at (λ rs q. arrays (done ++ rs) q) h, e) (go (manyAt reportAt (m - 1) s p)) where
-      go : (x : Res (List Report))
-          → then x (λ rs q. arrays (done ++ (r ∷ rs)) q)
-          ≡ then x (λ rs q. arrays (done ++ (r ∷ []) ++ rs) q)
-      go (ok rs q) = rw (append-snoc done r rs)
-      go (no n) = refl
+unfolding arraysFrom
+arrays-next done m s at r p h e = simp append-snoc (first-then reportAt m s at _ r p h e)
 
 pub arrays-refused : (done : List Report) (m : ℕ) (s : List ℕ) (at n : ℕ) → 0 < m → reportAt s at ≡ no n
     → arraysFrom done (manyAt reportAt m s at) ≡ no n
-unfolding arraysFrom then
-arrays-refused done m s at n h e = rw (many-then reportAt m s at (λ rs q. arrays (done ++ rs) q) h, e)
+unfolding arraysFrom
+arrays-refused done m s at n h e = refused-then reportAt m s at _ n h e
 
 pub arrays-done : (done : List Report) (m : ℕ) (s : List ℕ) (at : ℕ) → m ≡ 0
     → arraysFrom done (manyAt reportAt m s at) ≡ ok (headsOf done, placesOf done) at
-unfolding arraysFrom then
-arrays-done done m s at h = rw (many-none reportAt m s at h, append-nil done)
+unfolding arraysFrom
+arrays-done done m s at h = rw (none-then reportAt m s at _ h, append-nil done)
 
 pub arrays-no : (x : Res (List Report)) (n : ℕ) → arraysFrom [] x ≡ no n → x ≡ no n
 unfolding arraysFrom then

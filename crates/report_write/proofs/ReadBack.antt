@@ -19,7 +19,7 @@ use Rattle.xdr.proofs.Accepted.{bytes-read, count-read, item-accepted, number-r
 use Rattle.report.specs.Reports.{errorAt, errorFits, headAt, Report, reportAt}
 use Rattle.report.specs.declared.ErrorItem.{ErrorItem}
 use Rattle.report.specs.declared.ReportHead.{ReportHead}
-use Rattle.report.proofs.Runs.{many-none}
+use Rattle.xdr.proofs.ManyLaws.{many-none}
 use Rattle.report_write.specs.Places.{recordsAt, recordsIn}
 use Rattle.report_write.specs.Writing.{allFit, counts, ErrorRecord, errorBytes, errorsBytes, headBytes, judged, judgedOne, recordHere, reportsBytes}
 use Rattle.report_write.proofs.Standing.{be-at-stands, be-stands, bytes-are, Stands, stands-join}

@@ -15,7 +15,8 @@ use Rattle.numbers.specs.Numbers.{AllBytes, beBytes, beValue, beFrom}
 use Rattle.numbers.proofs.NumberLaws.{length-be}
 use Rattle.xdr.specs.Items.{countAt, numAt}
 use Rattle.xdr.specs.Res.{ok, then, whole, manyAt}
-use Rattle.xdr.proofs.Accepted.{Number, count-read, number-read, whole-read, ran, many-length, same-value, same-place}
+use Rattle.xdr.proofs.Accepted.{Number, count-read, number-read, whole-read, ran, same-value, same-place}
+use Rattle.xdr.proofs.ManyLaws.{many-length}
 use Rattle.report.specs.Reports.{Report, reportAt, reportBody}
 use Rattle.report.specs.Answers.{headsOf}
 use Rattle.report.specs.declared.ReportHead.{ReportHead}

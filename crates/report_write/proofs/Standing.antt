@@ -7,10 +7,10 @@ use borrow.Author.Tests.{le-leb}
 use lib.ListN.{length, take, drop, length-append}
 use lib.Seq.{drop-at, take-at, take-length}
 use Rattle.base.specs.Answer.{pick}
-use Rattle.numbers.specs.Numbers.{AllBytes, beAt, beBytes, beValue, bytesFrom}
+use Rattle.numbers.specs.Numbers.{allZero, AllBytes, beAt, beBytes, beValue, bytesFrom}
 use Rattle.numbers.proofs.NumberLaws.{be-back, be-round, dropped-bytes, length-be, length-bytes, taken-bytes, two-parts}
 use Rattle.xdr.specs.Res.{ok}
-use Rattle.xdr.specs.Items.{allZero, bytesAt, numAt, padding}
+use Rattle.xdr.specs.Items.{bytesAt, numAt, padding}
 
 -- the bytes bs stand in s from a place on
 pub record Stands (bs s : List ℕ) (at : ℕ) : Type 0 where

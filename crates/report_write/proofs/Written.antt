@@ -17,7 +17,7 @@ use Rattle.xdr.specs.Res.{ok, then, asItem, manyAt, endOf}
 use Rattle.xdr.proofs.EndLaws.{none-end, others-end}
 use Rattle.report.specs.Reports.{errorAt, errorFits, headAt, reportAt}
 use Rattle.report.specs.declared.ReportHead.{ReportHead}
-use Rattle.report.proofs.Runs.{report-ends}
+use Rattle.report.proofs.ReportLaws.{report-ends}
 use Rattle.report_write.specs.Places.{HeadFits, placed, RecordFits, recordsAt, recordsIn}
 use Rattle.report_write.specs.Writing.{allFit, counts, ErrorRecord, errorBytes, errorsBytes, headBytes, judged, recordHere, reportsBytes}
 use Rattle.report_write.proofs.RecordLaws.{Allowed, allowed}

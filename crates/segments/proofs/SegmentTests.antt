@@ -7,20 +7,13 @@ use native.Mathlib.Omega.{arith}
 use native.Mathlib.Decide.{decLe, decLt}
 use borrow.Author.Tests.{le-leb, leb-true}
 use lib.Dec.{leb}
-use Rattle.base.proofs.AnswerLaws.{both}
+use Rattle.base.proofs.AnswerLaws.{both, same-tests}
 use Rattle.segments.specs.declared.Right.{Right}
 use Rattle.segments.specs.declared.Right.the-variants.{None}
 use Rattle.segments.specs.declared.Segment.{Segment}
 use Rattle.segments.specs.Segments.{anyBelow, anyMeets, anyNames, isOfSlot, rightAt, segmentsOf, within}
 use Rattle.segments.proofs.Canon.{Ord, Below, at-in, at-none, at-past, at-under, below-past, canon-ord, ord-under}
 use Rattle.segments.proofs.ScanLaws.{any-ext, any-found, any-some, segments-below, segments-canon, segments-show}
-
--- two tests that hold together
-pub same-tests : (a b : Bool) → (a ≡ true → b ≡ true) → (b ≡ true → a ≡ true) → a ≡ b
-same-tests true true f g = refl
-same-tests true false f g = sym (f refl)
-same-tests false true f g = g refl
-same-tests false false f g = refl
 
 -- a byte of the range that passes the test lies in a segment that meets the range
 pub meets-some : (p : Right → Bool) (lo hi b : ℕ) (l : List Segment) (x : ℕ) → p None ≡ false → Ord b l → lo ≤ x → x ≤ hi → p (rightAt l x) ≡ true

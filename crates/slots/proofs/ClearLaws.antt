@@ -3,8 +3,10 @@ use Prim.Native.Nat.{ℕ, zero, suc, _+_}
 use mathlib.Core.Path.{_≡_, refl, sym, ap, subst, _∙_}
 use mathlib.Core.Bool.{Bool, true, false, not, _&&_}
 use mathlib.Core.List.{List, [], _∷_, _++_}
+use native.Mathlib.Numerals.{add-one}
 use native.Mathlib.Omega.{arith}
-use lib.ListN.{length, set, length-append}
+use lib.ListN.{length, length-append}
+use lib.Seq.{append-snoc, set-append-seam}
 use Rattle.base.specs.Answer.{pick}
 use Rattle.store.specs.Store.{Slot, empty, slotSet, storeOf}
 use Rattle.store.proofs.SlotLaws.{length-empty}
@@ -16,17 +18,11 @@ unfoldable pub clearedSlots : (ℕ → Bool) → (ℕ → Bool) → ℕ → List
 clearedSlots was is i [] = []
 clearedSlots was is i (p ∷ ps) = pick (was i && not (is i)) empty p ∷ clearedSlots was is (suc i) ps
 
-set-at : (pre ps : List Slot) (p q : Slot) → set (pre ++ (p ∷ ps)) (length pre) q ≡ pre ++ (q ∷ ps)
-set-at [] ps p q = refl
-set-at (s ∷ pre) ps p q = ap {B = List Slot} (λ l. s ∷ l) (set-at pre ps p q)
-
 one-more : (pre ps : List Slot) (q : Slot) → pre ++ (q ∷ ps) ≡ (pre ++ (q ∷ [])) ++ ps
-one-more [] ps q = refl
-one-more (s ∷ pre) ps q = ap {B = List Slot} (λ l. s ∷ l) (one-more pre ps q)
+one-more pre ps q = sym (append-snoc pre q ps)
 
 long : (pre : List Slot) (q : Slot) → length (pre ++ (q ∷ [])) ≡ suc (length pre)
-long [] q = refl
-long (s ∷ pre) q = ap suc (long pre q)
+long pre q = length-append pre (q ∷ []) ∙ add-one (length pre)
 
 emptied : (pre ps : List Slot) (p : Slot) → AllWhole (pre ++ (p ∷ ps)) → AllWhole (pre ++ (empty ∷ ps))
 emptied [] ps p w zero = length-empty
@@ -40,7 +36,7 @@ module _ (was is : ℕ → Bool) where
   unfolding pick
   after-one true pre ps p w =
       let l : length (pre ++ (p ∷ ps)) ≡ length pre + length (p ∷ ps) = length-append pre (p ∷ ps) in
-      set-slot (pre ++ (p ∷ ps)) (length pre) empty w length-empty (omega arith) ∙ ap storeOf (set-at pre ps p empty)
+      set-slot (pre ++ (p ∷ ps)) (length pre) empty w length-empty (omega arith) ∙ ap storeOf (set-append-seam pre p ps empty)
   after-one false pre ps p w = refl
 
   still-whole : (c : Bool) (pre ps : List Slot) (p : Slot) → AllWhole (pre ++ (p ∷ ps)) → AllWhole (pre ++ (pick c empty p ∷ ps))

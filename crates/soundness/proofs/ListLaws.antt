@@ -1,4 +1,4 @@
--- Laws of the soundness of segments: the segment in a place with its neighbour, and the blank places.
+-- Laws of the soundness of segments: two neighbours, and the blank places.
 use Prim.Native.Nat.{ℕ, suc, _+_, _-_, _≤_, _<_}
 use mathlib.Core.Path.{_≡_, refl, ap}
 use mathlib.Core.Bool.{Bool, true, false, not, _&&_}
@@ -9,10 +9,8 @@ use borrow.Author.Tests.{eq-eqb, le-ltb, lt-ltb, ne-eqb}
 use lib.ListN.{length, drop, getD, drop-of-length-le}
 use lib.Seq.{drop-cons}
 use Rattle.segments.specs.declared.Segment.{Segment}
-use Rattle.segments.specs.declared.Segments.{Segments}
-use Rattle.segments.specs.Segments.{listOf, sameRight}
-use Rattle.lookup.proofs.LookupLaws.{next-segment}
-use Rattle.reference.specs.Sound.{allBlank, apart, apartFromNext, inOrder, isBlank, isFit}
+use Rattle.segments.specs.Segments.{sameRight}
+use Rattle.reference.specs.Sound.{allBlank, apart, isBlank}
 
 -- ---- two neighbours
 
@@ -32,25 +30,7 @@ touch a b h e =
     let m : suc (a .last) ≡ b .first = omega arith in
     rw (lt-ltb _ _ h, eq-eqb _ _ m)
 
--- ---- the places of a list
-
-pub order-next : (g : Segments) (k : ℕ) (d : Segment) → k < length (listOf g)
-    → inOrder (drop k (listOf g))
-    ≡ (isFit (getD (g .items) k d) && apartFromNext (getD (g .items) k d) (drop (k + 1) (listOf g)) && inOrder (drop (k + 1) (listOf g)))
-unfolding inOrder
-order-next g k d h = ap inOrder (next-segment g k d h)
-
-pub order-none : (g : Segments) (k : ℕ) → length (listOf g) ≤ k → inOrder (drop k (listOf g)) ≡ true
-unfolding inOrder
-order-none g k h = ap inOrder (drop-of-length-le (listOf g) h)
-
-pub apart-next : (s : Segment) (g : Segments) (k : ℕ) (d : Segment) → k < length (listOf g) → apartFromNext s (drop k (listOf g)) ≡ apart s (getD (g .items) k d)
-unfolding apartFromNext
-apart-next s g k d h = ap (apartFromNext s) (next-segment g k d h)
-
-pub apart-none : (s : Segment) (g : Segments) (k : ℕ) → length (listOf g) ≤ k → apartFromNext s (drop k (listOf g)) ≡ true
-unfolding apartFromNext
-apart-none s g k h = ap (apartFromNext s) (drop-of-length-le (listOf g) h)
+-- ---- the places behind a list
 
 blank-next : (l : List Segment) (k : ℕ) (d : Segment) → k < length l → allBlank (drop k l) ≡ (isBlank (getD l k d) && allBlank (drop (k + 1) l))
 unfolding allBlank

@@ -66,7 +66,7 @@ fn is_filled(slot: &[u8], answer: LayoutAnswer) -> bool
     if !is_accepted(answer) {
         return false;
     }
-    store::all_zero(slot, 6 + n)
+    numbers::all_zero(slot, 6 + n)
 }
 
 // `named` says of each slot whether a segment names it.
@@ -94,7 +94,7 @@ pub(crate) fn judge_slots(named: [bool; 8], store: &[u8], wanted: SlotNumber) ->
                 read = l;
             }
         } else {
-            if !store::all_zero(slot, 0) {
+            if !numbers::all_zero(slot, 0) {
                 return none;
             }
         }

@@ -5,7 +5,7 @@ use mathlib.Core.List.{List, [], _∷_, _++_, append-assoc}
 use native.Mathlib.Omega.{arith}
 use borrow.Author.Tests.{le-leb}
 use lib.ListN.{length, take, drop, getD, set, length-append}
-use lib.Seq.{drop-append-add, drop-cons, set-split, sets-eq, take-append-add, take-at}
+use lib.Seq.{drop-append-add, drop-cons, drop-nil, set-split, sets-eq, take-append-add, take-at, take-nil}
 use Rattle.base.specs.Answer.{pick}
 use Rattle.buffers.specs.Buffers.{stored}
 use Rattle.buffers.proofs.StoredLaws.{fits-stored}
@@ -32,10 +32,7 @@ store-append (s ∷ k) l = rw (store-append k l) (sym (append-assoc (slotBytes s
 pub take-slots : (i : ℕ) (slots : List Slot) → AllWhole slots → take (i * 4096) (storeOf slots) ≡ storeOf (take i slots)
 unfolding storeOf
 take-slots zero slots h = refl
-take-slots (suc i) [] h = take-nothing (suc i * 4096) where
-  take-nothing : (n : ℕ) → _≡_ {A = List ℕ} (take n []) []
-  take-nothing zero = refl
-  take-nothing (suc n) = refl
+take-slots (suc i) [] h = take-nil (suc i * 4096)
 take-slots (suc i) (s ∷ l) h =
     let a : length (slotBytes s) ≡ 4096 = h 0 in
     let e : suc i * 4096 ≡ length (slotBytes s) + i * 4096 = omega arith in
@@ -44,10 +41,7 @@ take-slots (suc i) (s ∷ l) h =
 pub drop-slots : (i : ℕ) (slots : List Slot) → AllWhole slots → drop (i * 4096) (storeOf slots) ≡ storeOf (drop i slots)
 unfolding storeOf
 drop-slots zero slots h = refl
-drop-slots (suc i) [] h = drop-nothing (suc i * 4096) where
-  drop-nothing : (n : ℕ) → _≡_ {A = List ℕ} (drop n []) []
-  drop-nothing zero = refl
-  drop-nothing (suc n) = refl
+drop-slots (suc i) [] h = drop-nil (suc i * 4096)
 drop-slots (suc i) (s ∷ l) h =
     let a : length (slotBytes s) ≡ 4096 = h 0 in
     let e : suc i * 4096 ≡ length (slotBytes s) + i * 4096 = omega arith in

@@ -5,7 +5,6 @@ ghost use Prim.Native.Nat.{_*_};
 
 mod lay;
 mod slot;
-mod zero;
 
 pub use lay::clear_slot;
 pub use lay::lay_body;
@@ -14,7 +13,6 @@ pub use slot::slot_body;
 pub use slot::slot_bytes;
 pub use slot::slot_kind;
 pub use slot::slot_length;
-pub use zero::all_zero;
 
 // Where a slot begins.
 fn start(i: SlotNumber) -> usize

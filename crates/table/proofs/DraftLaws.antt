@@ -1,7 +1,7 @@
 -- Laws of drafts: what each way out of a push gives, how pushes follow each other, and the end of an edit.
 use Prim.Native.Nat.{ℕ, _+_, _-_, _≤_, _<_}
-use mathlib.Core.Path.{_≡_, refl, sym, ap}
-use mathlib.Core.Bool.{Bool, true, false}
+use mathlib.Core.Path.{_≡_, refl, sym, ap, _∙_}
+use mathlib.Core.Bool.{Bool, true, false, false≢true}
 use mathlib.Core.List.{List, [], _∷_, _++_}
 use native.Mathlib.Omega.{arith}
 use borrow.Author.Tests.{le-leb, lt-leb}
@@ -19,7 +19,7 @@ use Rattle.table.specs.Drafts.{Goes, Holds}
 use Rattle.table.proofs.PushLists.{joined, push-appends, push-first, push-joins, pushAll-append, pushSeg-keeps-length}
 
 pub never-both : {b : Bool} → b ≡ false → b ≡ true → ⊥
-never-both p q = let z : _≡_ {A = ℕ} 0 1 = cc in omega arith
+never-both p q = false≢true (sym p ∙ q)
 
 -- ---- the ways out of a push
 

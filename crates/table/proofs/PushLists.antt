@@ -1,5 +1,5 @@
--- Laws of a push onto a list: the last segment is joined or another stands behind it, and lists in 32 places.
-use Prim.Native.Nat.{ℕ, zero, suc, _+_, _-_, _≤_, _<_, min}
+-- Laws of a push onto a list: the last segment is joined or another stands behind it, in a list and in 32 places.
+use Prim.Native.Nat.{ℕ, _+_, _-_, _≤_, _<_, min}
 use mathlib.Core.Path.{_≡_, refl, sym, ap, _∙_}
 use mathlib.Core.Bool.{Bool, true, false}
 use mathlib.Core.List.{List, [], _∷_, _++_, append-nil, append-assoc}
@@ -8,9 +8,10 @@ use native.Mathlib.Decide.{decLe}
 use native.Mathlib.Numerals.{add-one}
 use borrow.Author.Tests.{eq-eqb, ne-eqb}
 use lib.ListN.{length, take, getD, set, replicate, length-append, length-set, List·getD-append}
-use lib.Seq.{append-snoc, set-at, set-append-left, take-suc, take-all}
+use lib.Seq.{take-suc, take-all}
 use Rattle.base.specs.Answer.{pick}
 use Rattle.base.specs.Lists.{padded}
+use Rattle.base.proofs.ListLaws.{padded-next, padded-set}
 use Rattle.segments.specs.declared.Segment.{Segment}
 use Rattle.segments.specs.Segments.{blank, sameRight}
 use Rattle.table.specs.Edits.{parts, pushAll, pushSeg, pushTo, touching}
@@ -47,24 +48,6 @@ unfolding pushSeg
 pushSeg-keeps-length [] s = omega arith
 pushSeg-keeps-length (a ∷ l) s = pushTo-keeps-length a l s
 
--- ---- lists in 32 places
-
-pub padded-set : (l : List Segment) (i : ℕ) (x : Segment) → i < length l → set (padded 32 blank l) i x ≡ padded 32 blank (set l i x)
-unfolding padded
-padded-set l i x h = rw (set-append-left l (replicate (32 - length l) blank) i x h, length-set l i x)
-
-one-place : (l : List Segment) (m : ℕ) (x : Segment) → 0 < m → set (l ++ replicate m blank) (length l) x ≡ l ++ (x ∷ []) ++ replicate (m - 1) blank
-one-place l zero x h = absurd (omega arith)
-one-place l (suc m) x h =
-    let e : suc m - 1 ≡ m = omega arith in
-    rw (e, append-snoc l x (replicate m blank)) (set-at l blank (replicate m blank) x (length l) refl)
-
-pub padded-next : (l : List Segment) (x : Segment) → length l < 32 → set (padded 32 blank l) (length l) x ≡ padded 32 blank (l ++ (x ∷ []))
-unfolding padded
-padded-next l x h =
-    let e : 32 - length (l ++ (x ∷ [])) ≡ 32 - length l - 1 = simp length-append (omega arith) in
-    rw e (one-place l (32 - length l) x (omega arith))
-
 -- ---- a push onto a list that stands in places
 
 last-in-places : (items : List Segment) (n : ℕ) (a : Segment) (l : List Segment) (e : Segment) → items ≡ padded 32 blank (a ∷ l) → n ≡ length (a ∷ l)
@@ -77,7 +60,7 @@ last-in-places items n a l e p q =
 pub push-first : (items : List Segment) (n : ℕ) (s : Segment) (l : List Segment) → items ≡ padded 32 blank l → n ≡ length l → n ≡ 0
     → (set items 0 s ≡ padded 32 blank (pushSeg l s)) × (length (pushSeg l s) ≡ 1)
 unfolding pushSeg
-push-first items n s [] p q z = (rw p (padded-next [] s (omega arith)), refl)
+push-first items n s [] p q z = (rw p (padded-next 32 blank [] 0 s refl (omega arith)), refl)
 push-first items n s (a ∷ l) p q z = absurd (omega arith)
 
 module _ (items : List Segment) (n : ℕ) (s e : Segment) where
@@ -89,7 +72,7 @@ module _ (items : List Segment) (n : ℕ) (s e : Segment) where
       let w = last-in-places items n a l e p q in
       let j = pushTo-joins a l s e (sym (ap (λ (x : Segment). touching x s) w) ∙ t) in
       let k : n - 1 ≡ length l = omega arith in (
-        rw (w, j, p, k) (padded-set (a ∷ l) (length l) (joined (getD (a ∷ l) (length l) e) s) (omega arith)),
+        rw (w, j, p, k) (padded-set 32 blank (a ∷ l) (length l) (joined (getD (a ∷ l) (length l) e) s) (omega arith)),
         rw j (length-set (a ∷ l) (length l) (joined (getD (a ∷ l) (length l) e) s) ∙ sym q),
       )
 
@@ -100,7 +83,7 @@ module _ (items : List Segment) (n : ℕ) (s e : Segment) where
   push-appends (a ∷ l) p q z t =
       let w = last-in-places items n a l e p q in
       let j = pushTo-appends a l s e (sym (ap (λ (x : Segment). touching x s) w) ∙ t) in
-      (λ r. rw (j, p, q) (padded-next (a ∷ l) s (omega arith)), rw (j, length-append (a ∷ l) (s ∷ []), q))
+      (λ r. rw (j, p, q) (padded-next 32 blank (a ∷ l) (length (a ∷ l)) s refl (omega arith)), rw (j, length-append (a ∷ l) (s ∷ []), q))
 
 -- ---- parts of lists
 

@@ -1,27 +1,16 @@
 // The part of one segment before, inside or after a range.
 use crate::change::Change;
+use base::larger;
+use base::smaller;
 use segments::Right;
 use segments::Segment;
 ghost use mathlib.Core.Path.{_≡_};
-ghost use Prim.Native.Nat.{max, min};
 ghost use Rattle.table.specs.Edits.{after, before, changedRight, inside, kept, recalledOf};
 ghost use Rattle.table.specs.Drafts.{piece};
 
 pub(crate) enum Part {
     Nothing,
     Some(Segment),
-}
-
-fn smaller(a: u64, b: u64) -> u64
-    ensures { λ r. ⌜ r ≡ min a b ⌝ }
-{
-    if a < b { a } else { b }
-}
-
-fn larger(a: u64, b: u64) -> u64
-    ensures { λ r. ⌜ r ≡ max a b ⌝ }
-{
-    if a < b { b } else { a }
 }
 
 fn recalled(right: Right) -> Right

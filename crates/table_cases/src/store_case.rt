@@ -1,23 +1,17 @@
 // The body store: for each slot the length that it says, and a checksum of its bytes.
 use base::SlotNumber;
+use base::wide8;
 use print::say;
 use print::say_fields;
-ghost use Prim.Native.Nat.{_<_};
 
 // Below 2^32, and a prime.
 const MODULUS: u64 = 4294967291;
-
-fn wide(x: u8) -> u64
-    ensures { λ r. ⌜ r < 256 ⌝ }
-{
-    x as u64
-}
 
 fn checksum(s: &[u8]) -> u64 {
     let mut c: u64 = 0;
     let mut i: usize = 0;
     while i < s.len() {
-        c = (c * 257 + wide(s[i])) % MODULUS;
+        c = (c * 257 + wide8(s[i]) as u64) % MODULUS;
         i += 1;
     }
     c

@@ -1,4 +1,5 @@
 // A layout body.
+use base::wide16;
 use layout::LayoutAnswer;
 use layout::Summary;
 use print::say;
@@ -7,16 +8,12 @@ use print::say_fault;
 use print::say_fields;
 use print::say_number;
 
-fn wide(x: u16) -> u64 {
-    x as u64
-}
-
 fn say_starts(starts: [u16; 128]) {
     say(b" starts=");
     let mut i: usize = 0;
     while i < 128 {
         say_between(b",", i);
-        say_number(wide(starts[i]));
+        say_number(wide16(starts[i]) as u64);
         i += 1;
     }
 }

@@ -1,18 +1,17 @@
 -- What holds of items that were read: the items before them, the tests that they passed, their limits and where they end.
-use Prim.Native.Nat.{ℕ, zero, suc, _+_, _*_, _≤_}
+use Prim.Native.Nat.{ℕ, _+_, _≤_}
 use mathlib.Core.Path.{_≡_, refl, sym, ap, _∙_}
 use mathlib.Core.Bool.{Bool, true, false}
 use mathlib.Core.List.{List}
-use native.Mathlib.Nat.{suc-mul}
 use native.Mathlib.Omega.{arith}
 use borrow.Author.Tests.{eqb-true, leb-true}
 use lib.Dec.{eqb}
 use lib.ListN.{length}
 use Rattle.base.specs.Answer.{Answer, accepted, refused, pick}
 use Rattle.base.proofs.AnswerLaws.{both, never-accepted, pick-accepted, same-answer}
-use Rattle.numbers.specs.Numbers.{bytesFrom, beValue}
-use Rattle.xdr.specs.Res.{Res, ok, no, then, manyAt, whole, asItem}
-use Rattle.xdr.specs.Items.{allZero, bytesAt, countAt, numAt, opaqueAt, padding}
+use Rattle.numbers.specs.Numbers.{allZero, bytesFrom, beValue}
+use Rattle.xdr.specs.Res.{Res, ok, no, then, whole, asItem}
+use Rattle.xdr.specs.Items.{bytesAt, countAt, numAt, opaqueAt, padding}
 use Rattle.xdr.specs.declared.Part.{Part}
 
 pub never : {A B : Type 0} (n : ℕ) (a : A) (p : ℕ) → no n ≡ ok a p → B
@@ -120,51 +119,3 @@ opaque-read lo hi s at v p h =
     let e : r .item ≡ v .len = ap (λ (x : Part). x .len) (sym (b .value)) in
     let f : r .next ≡ at + 4 = n .number .end in
     record { count = rw (e, f) at n; bytes = rw (e, f) at b }
-
--- items that each end inside the bytes do so together
-pub many-within : {A : Type 0} (item : List ℕ → ℕ → Res A) (s : List ℕ)
-    → ((at : ℕ) (a : A) (p : ℕ) → item s at ≡ ok a p → p ≤ length s)
-    → (n at : ℕ) (l : List A) (p : ℕ) → at ≤ length s → manyAt item n s at ≡ ok l p → p ≤ length s
-unfolding manyAt
-many-within item s h zero at l p k e = let f : at ≡ p = same-place e in rw f at k
-many-within item s h (suc n) at l p k e =
-    let r = ran _ _ l p e in
-    let t = ran _ _ l p (r .rest) in
-    let f : t .next ≡ p = same-place (t .rest) in
-    rw (← f) (many-within item s h n (r .next) (t .item) (t .next) (h at (r .item) (r .next) (r .first)) (t .first))
-
-pub many-length : {A : Type 0} (item : List ℕ → ℕ → Res A) (n : ℕ) (s : List ℕ) (at : ℕ) (l : List A) (p : ℕ) → manyAt item n s at ≡ ok l p → length l ≡ n
-unfolding manyAt
-many-length item zero s at l p e = ap length (sym (same-value e))
-many-length item (suc n) s at l p e =
-    let r = ran _ _ l p e in
-    let t = ran _ _ l p (r .rest) in
-    let k : length (t .item) ≡ n = many-length item n s (r .next) (t .item) (t .next) (t .first) in
-    ap length (sym (same-value (t .rest))) ∙ ap suc k
-
--- items that each take at least k bytes, or exactly k
-pub many-least : {A : Type 0} (item : List ℕ → ℕ → Res A) (k : ℕ) (s : List ℕ)
-    → ((at : ℕ) (a : A) (p : ℕ) → item s at ≡ ok a p → at + k ≤ p)
-    → (n at : ℕ) (l : List A) (p : ℕ) → manyAt item n s at ≡ ok l p → at + n * k ≤ p
-unfolding manyAt
-many-least item k s h zero at l p e = let f : at ≡ p = same-place e in omega (arith, f)
-many-least item k s h (suc n) at l p e =
-    let r = ran _ _ l p e in
-    let t = ran _ _ l p (r .rest) in
-    let f : t .next ≡ p = same-place (t .rest) in
-    let a = h at (r .item) (r .next) (r .first) in
-    let b = many-least item k s h n (r .next) (t .item) (t .next) (t .first) in
-    omega (arith, f, a, b, suc-mul n k)
-
-pub many-exact : {A : Type 0} (item : List ℕ → ℕ → Res A) (k : ℕ) (s : List ℕ)
-    → ((at : ℕ) (a : A) (p : ℕ) → item s at ≡ ok a p → p ≡ at + k)
-    → (n at : ℕ) (l : List A) (p : ℕ) → manyAt item n s at ≡ ok l p → p ≡ at + n * k
-unfolding manyAt
-many-exact item k s h zero at l p e = let f : at ≡ p = same-place e in omega (arith, f)
-many-exact item k s h (suc n) at l p e =
-    let r = ran _ _ l p e in
-    let t = ran _ _ l p (r .rest) in
-    let f : t .next ≡ p = same-place (t .rest) in
-    let a = h at (r .item) (r .next) (r .first) in
-    let b = many-exact item k s h n (r .next) (t .item) (t .next) (t .first) in
-    omega (arith, f, a, b, suc-mul n k)

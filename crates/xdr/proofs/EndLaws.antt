@@ -1,9 +1,10 @@
 -- Laws of the place behind an item, and behind several of one kind.
-use Prim.Native.Nat.{ℕ, zero, suc, _-_, _<_}
+use Prim.Native.Nat.{ℕ, _-_, _<_}
 use mathlib.Core.Path.{_≡_, refl}
-use mathlib.Core.List.{List, _∷_}
+use mathlib.Core.List.{List}
 use native.Mathlib.Omega.{arith}
 use Rattle.xdr.specs.Res.{Res, ok, no, then, manyAt, endOf}
+use Rattle.xdr.proofs.ManyLaws.{first-then, none-then, refused-then}
 
 -- what follows goes by the place alone
 pub end-then : {A B : Type 0} (x : Res A) (f : ℕ → Res B) (p : ℕ) → endOf x ≡ ok tt p → then x (λ a q. f q) ≡ f p
@@ -21,25 +22,17 @@ unfolding endOf then
 end-goes-on (ok a q) f = refl
 end-goes-on (no n) f = refl
 
-end-kept : {A B : Type 0} (x : Res A) (f : A → B) → endOf (then x λ a q. ok (f a) q) ≡ endOf x
-unfolding endOf then
-end-kept (ok a q) f = refl
-end-kept (no n) f = refl
-
 -- ---- several items, the first of them apart
 
-module _ {A : Type 0} (item : List ℕ → ℕ → Res A) where
-  pub none-end : (n : ℕ) (s : List ℕ) (at : ℕ) → n ≡ 0 → endOf (manyAt item n s at) ≡ ok tt at
-  unfolding manyAt endOf
-  none-end n s at h = rw h
+module _ {A : Type 0} (item : List ℕ → ℕ → Res A) (n : ℕ) (s : List ℕ) (at : ℕ) where
+  pub none-end : n ≡ 0 → endOf (manyAt item n s at) ≡ ok tt at
+  unfolding endOf
+  none-end h = none-then item n s at _ h
 
-  pub first-refuses : (n : ℕ) (s : List ℕ) (at k : ℕ) → 0 < n → item s at ≡ no k → endOf (manyAt item n s at) ≡ no k
-  unfolding manyAt then endOf
-  first-refuses zero s at k h e = absurd (omega arith)
-  first-refuses (suc n) s at k h e = rw e
+  pub first-refuses : (k : ℕ) → 0 < n → item s at ≡ no k → endOf (manyAt item n s at) ≡ no k
+  unfolding endOf
+  first-refuses k h e = refused-then item n s at _ k h e
 
-  pub others-end : (n : ℕ) (s : List ℕ) (at : ℕ) (v : A) (p : ℕ) → 0 < n → item s at ≡ ok v p
-      → endOf (manyAt item n s at) ≡ endOf (manyAt item (n - 1) s p)
-  unfolding manyAt then
-  others-end zero s at v p h e = absurd (omega arith)
-  others-end (suc n) s at v p h e = let f : suc n - 1 ≡ n = omega arith in rw (e, f) (end-kept (manyAt item n s p) (λ rest. v ∷ rest))
+  pub others-end : (v : A) (p : ℕ) → 0 < n → item s at ≡ ok v p → endOf (manyAt item n s at) ≡ endOf (manyAt item (n - 1) s p)
+  unfolding endOf
+  others-end v p h e = first-then item n s at _ v p h e

@@ -1,4 +1,6 @@
 pub mod Steps
 pub mod ItemLaws
 pub mod Accepted
+pub mod ManyLaws
 pub mod EndLaws
+pub mod PlaceLaws

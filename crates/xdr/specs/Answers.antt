@@ -1,8 +1,10 @@
 -- What the readers' answers say: the value and the place after it, or the number.
 use Prim.Native.Nat.{ℕ}
 use mathlib.Core.Bool.{Bool}
+use mathlib.Core.List.{List}
 use Rattle.base.specs.Refusals.{faultNumber}
 use Rattle.xdr.specs.Res.{Res, ok, no}
+use Rattle.xdr.specs.Lists.{Listed}
 use Rattle.xdr.specs.declared.Part.{Part}
 use Rattle.xdr.specs.declared.end.ReadEnd.{ReadEnd}
 use Rattle.xdr.specs.declared.end.ReadEnd.the-variants as end
@@ -34,3 +36,8 @@ resOfPart (part.Refused e) = no (faultNumber e)
 abbrev pub resOfEnd : ReadEnd → Res (Unit {0})
 resOfEnd (end.Value c) = ok tt (c .at)
 resOfEnd (end.Refused e) = no (faultNumber e)
+
+-- of a list, the answer is the count; the places stand beside it
+abbrev pub resOfList : {A : Type 0} → List A → ReadU32 → Res (Listed A)
+resOfList l (u32.Value n c) = ok (record { count = n; places = l }) (c .at)
+resOfList l (u32.Refused e) = no (faultNumber e)

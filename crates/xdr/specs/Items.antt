@@ -1,12 +1,12 @@
 -- The items of XDR, each at a place of a list of bytes. "At one item the order is: enough bytes (its padding counted), then its value, then its
 -- padding. A length or count in front is an item of its own."
 use Prim.Native.Nat.{ℕ, _+_, _-_, _%_}
-use mathlib.Core.List.{List, [], _∷_}
-use mathlib.Core.Bool.{Bool, true, _&&_}
+use mathlib.Core.List.{List}
+use mathlib.Core.Bool.{Bool, _&&_}
 use lib.ListN.{length}
 use lib.Dec.{leb, eqb}
 use Rattle.base.specs.Answer.{pick}
-use Rattle.numbers.specs.Numbers.{beValue, bytesFrom}
+use Rattle.numbers.specs.Numbers.{allZero, beValue, bytesFrom}
 use Rattle.xdr.specs.Res.{Res, ok, no, then}
 use Rattle.xdr.specs.declared.Part.{Part}
 
@@ -25,11 +25,6 @@ countAt lo hi s at = then (numAt 4 s at) λ n p. pick (leb lo n && leb n hi) (ok
 -- "0 to 3 zero bytes up to a multiple of 4"
 abbrev pub padding : ℕ → ℕ
 padding n = (4 - n % 4) % 4
-
--- whether each byte is 0
-unfoldable pub allZero : List ℕ → Bool
-allZero [] = true
-allZero (b ∷ bs) = eqb b 0 && allZero bs
 
 -- n bytes and their padding; the value is where they stand
 unfoldable pub bytesAt : ℕ → List ℕ → ℕ → Res Part

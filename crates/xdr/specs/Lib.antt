@@ -1,3 +1,4 @@
 pub mod Res
 pub mod Items
+pub mod Lists
 pub mod Answers

@@ -31,8 +31,7 @@ asItem (refused n) at = no n
 
 -- only the place behind an item
 unfoldable pub endOf : {A : Type 0} → Res A → Res (Unit {0})
-endOf (ok a at) = ok tt at
-endOf (no n) = no n
+endOf x = then x λ a at. ok tt at
 
 -- the number of the fault; of an item with a value, the first of the table
 abbrev pub faultIn : {A : Type 0} → Res A → ℕ

@@ -8,10 +8,7 @@ use base::Fault;
 ghost use mathlib.Core.Path.{_≡_};
 ghost use Rattle.xdr.specs.Res.{faultIn};
 ghost use Rattle.base.specs.Refusals.{faultNumber};
-ghost use Prim.Native.Nat.{_+_, _≤_};
-ghost use lib.ListN.{length};
-ghost use Rattle.numbers.specs.Numbers.{bytesFrom};
-ghost use Rattle.xdr.specs.Items.{allZero, boolAt, bytesAt, countAt, opaqueAt};
+ghost use Rattle.xdr.specs.Items.{boolAt, bytesAt, countAt, opaqueAt};
 ghost use Rattle.xdr.specs.Answers.{resOfBool, resOfPart, resOfU32};
 
 pub enum ReadBool {
@@ -54,20 +51,6 @@ pub fn read_count(s: &[u8], c: Cursor, lo: u32, hi: u32) -> ReadU32
     r
 }
 
-fn zeros(s: &[u8], at: usize, n: usize) -> bool
-    requires { ⌜ at + n ≤ length (now s) ⌝ }
-    ensures { λ r. ⌜ r ≡ allZero (bytesFrom n (now (s .entry)) at) ⌝ }
-{
-    let mut i: usize = 0;
-    while i < n {
-        if s[at + i] != 0 {
-            return false;
-        }
-        i += 1;
-    }
-    true
-}
-
 // n bytes and their padding; bytes of a fixed number that is a multiple of 4 have none.
 pub fn read_bytes(s: &[u8], c: Cursor, n: usize) -> ReadPart
     ensures { λ r. ⌜ resOfPart r ≡ bytesAt n (now (s .entry)) (c .at) ⌝ }
@@ -84,10 +67,11 @@ pub fn read_bytes(s: &[u8], c: Cursor, n: usize) -> ReadPart
     if s.len() - end < pad {
         return ReadPart::Refused(Fault::BytesRunOut);
     }
-    if !zeros(s, end, pad) {
+    let next = end + pad;
+    if !numbers::all_zero(&s[end..next], 0) {
         return ReadPart::Refused(Fault::PaddingNotZero);
     }
-    ReadPart::Value(Part { start: at, len: n }, Cursor { at: end + pad })
+    ReadPart::Value(Part { start: at, len: n }, Cursor { at: next })
 }
 
 // Variable opaque or string data of lo to hi bytes.

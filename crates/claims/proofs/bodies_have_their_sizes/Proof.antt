@@ -4,8 +4,8 @@ use native.Mathlib.Omega.{arith}
 use Rattle.base.specs.Answer.{given, pick}
 use Rattle.base.specs.Iomodes.{grantIomodeOf}
 use Rattle.base.specs.Ranges.{rangeLast, requestLast}
-use Rattle.numbers.specs.Numbers.{beBytes, beFrom, beValue}
-use Rattle.xdr.specs.Items.{allZero, bytesAt, countAt, numAt, opaqueAt}
+use Rattle.numbers.specs.Numbers.{allZero, beBytes, beFrom, beValue}
+use Rattle.xdr.specs.Items.{bytesAt, countAt, numAt, opaqueAt}
 use Rattle.xdr.specs.Res.{asItem, manyAt, then, whole}
 use Rattle.server.specs.Servers.{handlesAt, headAt, serverAt}
 use Rattle.layout.specs.Layouts.{frontAt, layoutAt, layoutBody, mirrorsAt, tailAt, unitFits}

@@ -1,9 +1,11 @@
--- `buffers::store_le::put_le` meets its contract. The loop's invariant: what is still to be stored over the buffer now is what was to be stored
--- over the buffer at the start. The measure is how many bytes are left.
+-- `buffers::store_le::put_le` meets its contract: the buffer has room for the number, or it stays. The loop's invariant: what is still to be stored
+-- over the buffer now is what was to be stored over the buffer at the start. The measure is how many bytes are left.
 use Prim.Native.Nat.{ℕ, _+_, _-_, _≤_}
-use Rattle.buffers.proofs.StoredLaws.{low-byte-first}
+use Rattle.buffers.proofs.StoredLaws.{fits-stored, low-byte-first, unfit-stored}
+use Rattle.numbers.proofs.NumberLaws.{length-le}
 use Rattle.numbers.specs.Numbers.{leBytes}
 use borrow.Author.Needs.{needs}
+use denote.Ref.{now}
 use lib.ListN.{length, length-set}
 use lib.Seq.{sets}
 use mathlib.Core.Path.{_≡_, refl, sym, ap, _∙_}
@@ -13,16 +15,29 @@ use Rattle.buffers.proofs.store_le.put_le.Statement.{statement}
 use Rattle.buffers.proofs.store_le.put_le.Tie as tie
 
 abbrev Inv-loop : tie.InvT-loop
-Inv-loop buf₀ at k v w₀ i₀ buf w i = (i ≤ k) × (length buf ≡ length buf₀) × (sets buf₀ at (leBytes k v) ≡ sets buf (at + i) (leBytes (k - i) w))
+Inv-loop buf₀ at k v w₀ i₀ buf w i =
+    (i ≤ k)
+    × (at + k ≤ length buf₀)
+    × (length buf ≡ length buf₀)
+    × (sets buf₀ at (leBytes k v) ≡ sets buf (at + i) (leBytes (k - i) w))
 
 abbrev μ-loop : tie.MeasureT-loop
 μ-loop buf₀ at k v w₀ i₀ buf w i = k - i
 
+returns : tie.Need-returns Inv-loop μ-loop
+returns c = sym (unfit-stored _ _ _ (omega (arith, length-le (c .before .args .k) (c .before .args .v))))
+
+sub-if2 : tie.Need-sub-if2 Inv-loop μ-loop
+sub-if2 c = search needs
+
+returns-2 : tie.Need-returns-2 Inv-loop μ-loop
+returns-2 c = sym (unfit-stored _ _ _ (omega (arith, length-le (c .before .before .args .k) (c .before .before .args .v))))
+
 loop-holds : tie.Need-loop-holds Inv-loop μ-loop
 loop-holds c =
-    let a = c .args in
+    let a = c .before .before .args in
     let e : a .k - 0 ≡ a .k = omega arith in
-    (omega arith, refl, rw (add-zero (a .at), e))
+    (omega arith, omega arith, refl, rw (add-zero (a .at), e))
 
 cast-buf : tie.Need-cast-buf Inv-loop μ-loop
 cast-buf c = search needs
@@ -42,17 +57,19 @@ loop-less c = search needs
 loop-again : tie.Need-loop-again Inv-loop μ-loop
 loop-again c =
     let l = c .before .loop in
-    (omega arith, simp length-set (l .inv .1), l .inv .2 ∙ low-byte-first (l .buf) (c .before .before .args .at) (c .before .before .args .k) (l .i) (l .w) (omega arith))
+    (omega arith, l .inv .1, simp length-set (l .inv .2), l .inv .3 ∙ low-byte-first (l .buf) (c .before .before .before .before .args .at) (c .before .before .before .before .args .k) (l .i) (l .w) (omega arith))
 
 same-length : tie.Need-same-length Inv-loop μ-loop
-same-length c = c .before .loop .inv .1
+same-length c = c .before .loop .inv .2
 
-returns : tie.Need-returns Inv-loop μ-loop
+returns-3 : tie.Need-returns-3 Inv-loop μ-loop
 unfolding leBytes
-returns c =
+returns-3 c =
     let l = c .before .loop in
-    let e : c .before .before .args .k - l .i ≡ 0 = omega arith in
-    sym (l .inv .2 ∙ ap (λ (n : ℕ). sets (l .buf) (c .before .before .args .at + l .i) (leBytes n (l .w))) e)
+    let a = c .before .before .before .before .args in
+    let e : a .k - l .i ≡ 0 = omega arith in
+    let f = l .inv .3 ∙ ap (λ (n : ℕ). sets (l .buf) (a .at + l .i) (leBytes n (l .w))) e in
+    sym (fits-stored (now (a .buf)) (a .at) (leBytes (a .k) (a .v)) (omega (arith, length-le (a .k) (a .v))) ∙ f)
 
 pub put-le-spec : {M : Type 1} → statement M
 put-le-spec =
@@ -60,6 +77,9 @@ put-le-spec =
     (tie.spec
     Inv-loop
     μ-loop
+    returns
+    sub-if2
+    returns-2
     loop-holds
     cast-buf
     add-buf
@@ -68,4 +88,4 @@ put-le-spec =
     loop-less
     loop-again
     same-length
-    returns)
+    returns-3)

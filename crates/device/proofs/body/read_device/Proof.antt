@@ -1,9 +1,8 @@
 -- `device::body::read_device` meets its contract: the length, the addresses, the versions, then the end. `k1` is the place after the addresses,
 -- `k2` the one after the versions.
 use Rattle.device.proofs.DeviceLaws.{addresses-refused, body-accepted, body-too-long, bytes-left-over, versions-refused}
-use Rattle.device.specs.Answers.{resOfList}
 use Rattle.xdr.proofs.Steps.{came, handed-from}
-use Rattle.xdr.specs.Answers.{resOfU32}
+use Rattle.xdr.specs.Answers.{resOfList, resOfU32}
 use borrow.Author.Needs.{needs}
 use mathlib.Core.Path.{refl}
 use Rattle.device.proofs.body.read_device.Statement.{statement}

@@ -2,7 +2,7 @@
 -- places are left.
 use Prim.Native.Nat.{_-_, _≤_, min}
 use Rattle.base.proofs.ListLaws.{mapped-long}
-use Rattle.lookup.proofs.LookupLaws.{length-used, meets-next, meets-none}
+use Rattle.lookup.proofs.LookupLaws.{length-used, next-segment, no-segment}
 use Rattle.lookup.specs.Lookup.{satisfies}
 use Rattle.segments.specs.Segments.{anyMeets, blank, listOf}
 use borrow.Author.Needs.{needs}
@@ -34,13 +34,14 @@ hits-requires : tie.Need-hits-requires Inv-loop μ-loop
 hits-requires c κs = search needs
 
 returns : tie.Need-returns Inv-loop μ-loop
+unfolding anyMeets
 returns c =
     let l = c .before .before .before .before .loop in
     let a = c .before .before .before .before .before .before .args in
     let g = a .t1 in
     let h : length (g .items) ≡ 32 = search (needs, mapped-long) in
     let e : length (listOf g) ≡ min (g .count) 32 = length-used g h in
-    rw (l .inv .1, meets-next (satisfies (a .c)) (a .first) (a .last) g (l .k) blank (omega arith), sym (c .before .hits .ensures) ∙ c .if1 .taken)
+    rw (l .inv .1, next-segment g (l .k) blank (omega arith), sym (c .before .hits .ensures) ∙ c .if1 .taken)
 
 add-k : tie.Need-add-k Inv-loop μ-loop
 add-k c = search needs
@@ -49,22 +50,24 @@ loop-less : tie.Need-loop-less Inv-loop μ-loop
 loop-less c = search needs
 
 loop-again : tie.Need-loop-again Inv-loop μ-loop
+unfolding anyMeets
 loop-again c =
     let l = c .before .before .before .before .loop in
     let a = c .before .before .before .before .before .before .args in
     let g = a .t1 in
     let h : length (g .items) ≡ 32 = search (needs, mapped-long) in
     let e : length (listOf g) ≡ min (g .count) 32 = length-used g h in
-    (omega arith, rw (l .inv .1, meets-next (satisfies (a .c)) (a .first) (a .last) g (l .k) blank (omega arith), sym (c .before .hits .ensures) ∙ c .if1 .left))
+    (omega arith, rw (l .inv .1, next-segment g (l .k) blank (omega arith), sym (c .before .hits .ensures) ∙ c .if1 .left))
 
 returns-2 : tie.Need-returns-2 Inv-loop μ-loop
+unfolding anyMeets
 returns-2 c =
     let l = c .before .loop in
     let a = c .before .before .before .args in
     let g = a .t1 in
     let h : length (g .items) ≡ 32 = search (needs, mapped-long) in
     let e : length (listOf g) ≡ min (g .count) 32 = length-used g h in
-    sym (l .inv .1 ∙ meets-none (satisfies (a .c)) (a .first) (a .last) g (l .k) (omega arith))
+    rw (l .inv .1, no-segment g (l .k) (omega arith))
 
 pub any-meets-spec : {M : Type 1} → statement M
 any-meets-spec =

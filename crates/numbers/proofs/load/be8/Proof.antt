@@ -1,26 +1,22 @@
 -- `numbers::load::be8` meets its contract: two numbers of four bytes are one of eight.
 use Prim.Native.Nat.{_+_}
-use Rattle.base.specs.Answer.{pick}
-use Rattle.numbers.proofs.NumberLaws.{be-append, length-bytes, two-parts}
-use Rattle.numbers.specs.Numbers.{bytesFrom, beAt}
+use Rattle.numbers.proofs.NumberLaws.{be-append, be-short, be-there, length-bytes, two-parts}
+use Rattle.numbers.specs.Numbers.{bytesFrom}
 use borrow.Author.Needs.{needs}
-use borrow.Author.Tests.{le-leb, lt-leb}
 use denote.Ref.{now}
-use lib.ListN.{length}
+use mathlib.Core.Path.{sym}
 use native.Mathlib.Omega.{arith}
 use Rattle.numbers.proofs.load.be8.Statement.{statement}
 use Rattle.numbers.proofs.load.be8.Tie as tie
 
 returns : tie.Need-returns
-unfolding beAt pick
-returns c = rw (lt-leb (c .before .before .args .at + 8) (length (now (c .before .before .args .s))) (omega arith))
+returns c = sym (be-short 8 _ _ (omega arith))
 
 sub-if2 : tie.Need-sub-if2
 sub-if2 c = search needs
 
 returns-2 : tie.Need-returns-2
-unfolding beAt pick
-returns-2 c = rw (lt-leb (c .before .before .before .args .at + 8) (length (now (c .before .before .before .args .s))) (omega arith))
+returns-2 c = sym (be-short 8 _ _ (omega arith))
 
 be4-requires : tie.Need-be4-requires
 be4-requires c κs = search needs
@@ -44,13 +40,12 @@ add-result : tie.Need-add-result
 add-result c = search needs
 
 returns-3 : tie.Need-returns-3
-unfolding beAt pick
 returns-3 c =
     let s = now (c .before .before .before .before .before .args .s) in
     let p = c .before .before .before .before .before .args .at in
-    let high = rw (le-leb (p + 4) (length s) (omega arith)) at (c .before .be4 .ensures) in
-    let low = rw (le-leb (p + 4 + 4) (length s) (omega arith)) at (c .be42 .ensures) in
-    rw (le-leb (p + 8) (length s) (omega arith), two-parts 4 4 s p, be-append (bytesFrom 4 s p) (bytesFrom 4 s (p + 4)), length-bytes 4 s (p + 4) (omega arith))
+    let high = rw (be-there 4 s p (omega arith)) at (c .before .be4 .ensures) in
+    let low = rw (be-there 4 s (p + 4) (omega arith)) at (c .be42 .ensures) in
+    rw (be-there 8 s p (omega arith), two-parts 4 4 s p, be-append (bytesFrom 4 s p) (bytesFrom 4 s (p + 4)), length-bytes 4 s (p + 4) (omega arith))
     (omega arith)
 
 pub be8-spec : {M : Type 1} → statement M

@@ -1,26 +1,22 @@
 -- `numbers::load::le8` meets its contract: two numbers of four bytes are one of eight.
 use Prim.Native.Nat.{_+_}
-use Rattle.base.specs.Answer.{pick}
-use Rattle.numbers.proofs.NumberLaws.{le-append, length-bytes, two-parts}
-use Rattle.numbers.specs.Numbers.{bytesFrom, leAt}
+use Rattle.numbers.proofs.NumberLaws.{le-append, le-short, le-there, length-bytes, two-parts}
+use Rattle.numbers.specs.Numbers.{bytesFrom}
 use borrow.Author.Needs.{needs}
-use borrow.Author.Tests.{le-leb, lt-leb}
 use denote.Ref.{now}
-use lib.ListN.{length}
+use mathlib.Core.Path.{sym}
 use native.Mathlib.Omega.{arith}
 use Rattle.numbers.proofs.load.le8.Statement.{statement}
 use Rattle.numbers.proofs.load.le8.Tie as tie
 
 returns : tie.Need-returns
-unfolding leAt pick
-returns c = rw (lt-leb (c .before .before .args .at + 8) (length (now (c .before .before .args .s))) (omega arith))
+returns c = sym (le-short 8 _ _ (omega arith))
 
 sub-if2 : tie.Need-sub-if2
 sub-if2 c = search needs
 
 returns-2 : tie.Need-returns-2
-unfolding leAt pick
-returns-2 c = rw (lt-leb (c .before .before .before .args .at + 8) (length (now (c .before .before .before .args .s))) (omega arith))
+returns-2 c = sym (le-short 8 _ _ (omega arith))
 
 le4-requires : tie.Need-le4-requires
 le4-requires c κs = search needs
@@ -44,13 +40,12 @@ add-result : tie.Need-add-result
 add-result c = search needs
 
 returns-3 : tie.Need-returns-3
-unfolding leAt pick
 returns-3 c =
     let s = now (c .before .before .before .before .before .args .s) in
     let p = c .before .before .before .before .before .args .at in
-    let low = rw (le-leb (p + 4) (length s) (omega arith)) at (c .before .le4 .ensures) in
-    let high = rw (le-leb (p + 4 + 4) (length s) (omega arith)) at (c .le42 .ensures) in
-    rw (le-leb (p + 8) (length s) (omega arith), two-parts 4 4 s p, le-append (bytesFrom 4 s p) (bytesFrom 4 s (p + 4)), length-bytes 4 s p (omega arith))
+    let low = rw (le-there 4 s p (omega arith)) at (c .before .le4 .ensures) in
+    let high = rw (le-there 4 s (p + 4) (omega arith)) at (c .le42 .ensures) in
+    rw (le-there 8 s p (omega arith), two-parts 4 4 s p, le-append (bytesFrom 4 s p) (bytesFrom 4 s (p + 4)), length-bytes 4 s p (omega arith))
     (omega arith)
 
 pub le8-spec : {M : Type 1} → statement M

@@ -1,7 +1,8 @@
 -- `report::body::read_reports` meets its contract: the count, the reports, the statistics count, the end.
 use Rattle.base.specs.Answer.{accepted, pick}
 use Rattle.base.specs.Refusals.{faultNumber}
-use Rattle.xdr.proofs.Accepted.{count-read, many-length}
+use Rattle.xdr.proofs.Accepted.{count-read}
+use Rattle.xdr.proofs.ManyLaws.{many-length}
 use Rattle.report.proofs.ReportLaws.{answer-accepted, answer-refused, arrays-no, arrays-ok, body-accepted}
 use Rattle.report.specs.Answers.{resOfArrays}
 use Rattle.report.specs.Reports.{reportAt, reportBody}

@@ -1,5 +1,5 @@
 -- `report::head::read_report` meets its contract: the head, then its errors.
-use Rattle.report.proofs.Runs.{report-ends}
+use Rattle.report.proofs.ReportLaws.{report-ends}
 use Rattle.report.specs.Answers.{resOfHead}
 use Rattle.xdr.proofs.Steps.{came, handed, handed-from}
 use Rattle.xdr.specs.Answers.{resOfEnd}

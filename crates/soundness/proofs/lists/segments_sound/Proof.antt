@@ -2,13 +2,13 @@
 -- second one's: the flag says whether the places passed are blank. The measures are how many are left.
 use Prim.Native.Nat.{_+_, _-_, _≤_, min}
 use Rattle.base.proofs.ListLaws.{mapped-long}
-use Rattle.lookup.proofs.LookupLaws.{length-used}
-use Rattle.reference.specs.Sound.{allBlank, inOrder, segmentsSound}
+use Rattle.lookup.proofs.LookupLaws.{length-used, next-segment, no-segment}
+use Rattle.reference.specs.Sound.{allBlank, apartFromNext, inOrder, segmentsSound}
 use Rattle.segments.specs.Segments.{blank, listOf}
-use Rattle.soundness.proofs.ListLaws.{apart-next, apart-none, blank-none, blank-passed, order-next, order-none}
+use Rattle.soundness.proofs.ListLaws.{blank-none, blank-passed}
 use borrow.Author.Needs.{needs}
 use borrow.Author.Tests.{le-leb, lt-leb, not-false, not-true}
-use lib.ListN.{drop, getD, length}
+use lib.ListN.{drop, length}
 use mathlib.Core.Bool.{_&&_, and-true}
 use mathlib.Core.Path.{_≡_, refl, sym, _∙_}
 use native.Mathlib.Omega.{arith}
@@ -44,13 +44,13 @@ is-fit-requires : tie.Need-is-fit-requires Inv-loop μ-loop Inv-loop2 μ-loop2
 is-fit-requires c κs = search needs
 
 returns-2 : tie.Need-returns-2 Inv-loop μ-loop Inv-loop2 μ-loop2
-unfolding segmentsSound
+unfolding segmentsSound inOrder
 returns-2 c =
     let l = c .before .before .before .before .loop in
     let g = c .before .before .before .before .before .before .args .t1 in
     let h : length (g .items) ≡ 32 = search (needs, mapped-long) in
     let e : length (listOf g) ≡ min (g .count) 32 = length-used g h in
-    rw (le-leb _ _ (c .before .before .before .before .before .if1 .left), l .inv .1, order-next g (l .k) blank (omega arith), sym (c .before .is-fit .ensures) ∙ not-true _ (c .if2 .taken))
+    rw (le-leb _ _ (c .before .before .before .before .before .if1 .left), l .inv .1, next-segment g (l .k) blank (omega arith), sym (c .before .is-fit .ensures) ∙ not-true _ (c .if2 .taken))
 
 add-k : tie.Need-add-k Inv-loop μ-loop Inv-loop2 μ-loop2
 add-k c = omega arith
@@ -65,35 +65,37 @@ are-apart-requires : tie.Need-are-apart-requires Inv-loop μ-loop Inv-loop2 μ-l
 are-apart-requires c κs = search needs
 
 returns-3 : tie.Need-returns-3 Inv-loop μ-loop Inv-loop2 μ-loop2
-unfolding segmentsSound
+unfolding segmentsSound inOrder apartFromNext
 returns-3 c =
     let l = c .before .before .before .before .before .before .before .before .loop in
     let g = c .before .before .before .before .before .before .before .before .before .before .args .t1 in
     let h : length (g .items) ≡ 32 = search (needs, mapped-long) in
     let e : length (listOf g) ≡ min (g .count) 32 = length-used g h in
-    rw (le-leb _ _ (c .before .before .before .before .before .before .before .before .before .if1 .left), l .inv .1, order-next g (l .k) blank (omega arith), sym (c .before .before .before .before .before .is-fit .ensures) ∙ not-false _ (c .before .before .before .before .if2 .left), apart-next (getD (g .items) (l .k) blank) g (l .k + 1) blank (omega arith), sym (c .before .are-apart .ensures) ∙ not-true _ (c .if4 .taken))
+    rw (le-leb _ _ (c .before .before .before .before .before .before .before .before .before .if1 .left), l .inv .1, next-segment g (l .k) blank (omega arith), sym (c .before .before .before .before .before .is-fit .ensures) ∙ not-false _ (c .before .before .before .before .if2 .left), next-segment g (l .k + 1) blank (omega arith), sym (c .before .are-apart .ensures) ∙ not-true _ (c .if4 .taken))
 
 loop-less : tie.Need-loop-less Inv-loop μ-loop Inv-loop2 μ-loop2
 loop-less c = search needs
 
 loop-again : tie.Need-loop-again Inv-loop μ-loop Inv-loop2 μ-loop2
+unfolding inOrder apartFromNext
 loop-again c =
     let l = c .before .before .before .before .before .before .before .before .loop in
     let g = c .before .before .before .before .before .before .before .before .before .before .args .t1 in
     let h : length (g .items) ≡ 32 = search (needs, mapped-long) in
     let e : length (listOf g) ≡ min (g .count) 32 = length-used g h in
-    (omega arith, rw (l .inv .1, order-next g (l .k) blank (omega arith), sym (c .before .before .before .before .before .is-fit .ensures) ∙ not-false _ (c .before .before .before .before .if2 .left), apart-next (getD (g .items) (l .k) blank) g (l .k + 1) blank (omega arith), sym (c .before .are-apart .ensures) ∙ not-false _ (c .if4 .left)))
+    (omega arith, rw (l .inv .1, next-segment g (l .k) blank (omega arith), sym (c .before .before .before .before .before .is-fit .ensures) ∙ not-false _ (c .before .before .before .before .if2 .left), next-segment g (l .k + 1) blank (omega arith), sym (c .before .are-apart .ensures) ∙ not-false _ (c .if4 .left)))
 
 loop-less-2 : tie.Need-loop-less-2 Inv-loop μ-loop Inv-loop2 μ-loop2
 loop-less-2 c = search needs
 
 loop-again-2 : tie.Need-loop-again-2 Inv-loop μ-loop Inv-loop2 μ-loop2
+unfolding inOrder apartFromNext
 loop-again-2 c =
     let l = c .before .before .before .before .before .loop in
     let g = c .before .before .before .before .before .before .before .args .t1 in
     let h : length (g .items) ≡ 32 = search (needs, mapped-long) in
     let e : length (listOf g) ≡ min (g .count) 32 = length-used g h in
-    (omega arith, rw (l .inv .1, order-next g (l .k) blank (omega arith), sym (c .before .before .is-fit .ensures) ∙ not-false _ (c .before .if2 .left), apart-none (getD (g .items) (l .k) blank) g (l .k + 1) (omega arith)))
+    (omega arith, rw (l .inv .1, next-segment g (l .k) blank (omega arith), sym (c .before .before .is-fit .ensures) ∙ not-false _ (c .before .if2 .left), no-segment g (l .k + 1) (omega arith)))
 
 loop2-holds : tie.Need-loop2-holds Inv-loop μ-loop Inv-loop2 μ-loop2
 loop2-holds c =
@@ -124,14 +126,14 @@ loop2-again c =
     rw (c .is-blank .ensures) (m .inv ∙ blank-passed (g .items) (m .k) blank (m .blank) (omega arith))
 
 returns-4 : tie.Need-returns-4 Inv-loop μ-loop Inv-loop2 μ-loop2
-unfolding segmentsSound
+unfolding segmentsSound inOrder
 returns-4 c =
     let l = c .before .before .before .loop in
     let m = c .before .loop2 in
     let g = c .before .before .before .before .before .args .t1 in
     let h : length (g .items) ≡ 32 = search (needs, mapped-long) in
     let e : length (listOf g) ≡ min (g .count) 32 = length-used g h in
-    rw (le-leb _ _ (c .before .before .before .before .if1 .left), l .inv .1 ∙ order-none g (l .k) (omega arith), m .inv, blank-none (g .items) (m .k) (omega arith), and-true)
+    rw (le-leb _ _ (c .before .before .before .before .if1 .left), l .inv .1, no-segment g (l .k) (omega arith), m .inv, blank-none (g .items) (m .k) (omega arith), and-true)
 
 pub segments-sound-spec : {M : Type 1} → statement M
 segments-sound-spec =

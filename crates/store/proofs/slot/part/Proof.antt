@@ -1,6 +1,6 @@
 -- `store::slot::part` meets its contract: the bytes wanted, cut off where the slice ends.
 use Prim.Native.Nat.{_+_, _-_}
-use Rattle.store.proofs.PartLaws.{part-none, part-rest}
+use Rattle.numbers.proofs.NumberLaws.{fewer-left, none-left}
 use borrow.Author.Needs.{needs}
 use denote.Ref.{now}
 use lib.ListN.{length}
@@ -22,7 +22,7 @@ returns : tie.Need-returns
 returns c =
     let a = c .before .before .args in
     let s = now (a .s) in
-    part-none (length s - length s) s (length s) (omega arith) ∙ sym (part-none (a .n) s (a .at) (omega arith))
+    none-left (length s - length s) s (length s) (omega arith) ∙ sym (none-left (a .n) s (a .at) (omega arith))
 
 part-result-start-2 : tie.Need-part-result-start-2
 part-result-start-2 c = search needs
@@ -33,7 +33,7 @@ part-result-end-2 c = search needs
 returns-2 : tie.Need-returns-2
 returns-2 c =
     let a = c .before .before .before .args in
-    part-rest (a .n) (now (a .s)) (a .at) (omega arith)
+    fewer-left (a .n) (now (a .s)) (a .at) (omega arith)
 
 add-end : tie.Need-add-end
 add-end c = search needs

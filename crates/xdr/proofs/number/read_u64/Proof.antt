@@ -10,13 +10,13 @@ use Rattle.xdr.proofs.number.read_u64.Statement.{statement}
 use Rattle.xdr.proofs.number.read_u64.Tie as tie
 
 returns : tie.Need-returns
-returns c = sym (num-short 8 (now (c .before .before .args .s)) (c .before .before .args .c .at) (omega arith))
+returns c = sym (num-short 8 _ _ (omega arith))
 
 sub-if2 : tie.Need-sub-if2
 sub-if2 c = search needs
 
 returns-2 : tie.Need-returns-2
-returns-2 c = sym (num-short 8 (now (c .before .before .before .args .s)) (c .before .before .before .args .c .at) (omega arith))
+returns-2 c = sym (num-short 8 _ _ (omega arith))
 
 be8-requires : tie.Need-be8-requires
 be8-requires c κs = search needs
@@ -25,7 +25,9 @@ add-t4 : tie.Need-add-t4
 add-t4 c = search needs
 
 returns-3 : tie.Need-returns-3
-returns-3 c = ap (λ (v : ℕ). ok v (c .before .before .before .before .args .c .at + 8)) (c .be8 .ensures) ∙ sym (num-there 8 (now (c .before .before .before .before .args .s)) (c .before .before .before .before .args .c .at) (omega arith))
+returns-3 c =
+    let a = c .before .before .before .before .args in
+    ap (λ (v : ℕ). ok v (a .c .at + 8)) (c .be8 .ensures) ∙ sym (num-there 8 (now (a .s)) (a .c .at) (omega arith))
 
 pub read-u64-spec : {M : Type 1} → statement M
 read-u64-spec = tie.close (tie.spec returns sub-if2 returns-2 be8-requires add-t4 returns-3)

@@ -2,8 +2,7 @@
 ghost use mathlib.Core.Path.{_≡_};
 ghost use Prim.Native.Nat.{_+_, _≤_};
 ghost use lib.ListN.{drop, length};
-ghost use Rattle.numbers.specs.Numbers.{bytesFrom};
-ghost use Rattle.xdr.specs.Items.{allZero};
+ghost use Rattle.numbers.specs.Numbers.{allZero, bytesFrom};
 
 fn zero_run(s: &[u8], at: usize, n: usize) -> bool
     requires { ⌜ at + n ≤ length (now s) ⌝ }

@@ -1,44 +1,30 @@
 -- Laws of bytes that are all zero: two parts, one more byte, a block and what is behind it, what they are.
 use Prim.Native.Nat.{ℕ, zero, suc, _+_, _<_}
-use mathlib.Core.Path.{_≡_, refl, sym, ap, ap₂, _∙_}
-use mathlib.Core.Bool.{Bool, true, false, _&&_}
+use mathlib.Core.Path.{_≡_, refl, ap, ap₂, _∙_}
+use mathlib.Core.Bool.{true, _&&_, and-assoc, and-true}
 use mathlib.Core.List.{List, [], _∷_, _++_}
-use native.Mathlib.Numerals.{add-one}
-use native.Mathlib.Omega.{arith}
 use borrow.Author.Tests.{eqb-true}
 use lib.Dec.{eqb}
-use lib.ListN.{length, take, drop, getD, replicate, length-drop, take-append-drop}
-use lib.Seq.{drop-drop, getD-drop, take-suc}
+use lib.ListN.{length, drop, getD, replicate}
 use Rattle.base.proofs.AnswerLaws.{both}
-use Rattle.numbers.specs.Numbers.{bytesFrom}
-use Rattle.xdr.specs.Items.{allZero}
+use Rattle.numbers.specs.Numbers.{allZero, bytesFrom}
+use Rattle.numbers.proofs.NumberLaws.{last-of-run, run-first}
 
 pub zero-append : (xs ys : List ℕ) → allZero (xs ++ ys) ≡ (allZero xs && allZero ys)
 unfolding allZero
 zero-append [] ys = refl
-zero-append (x ∷ xs) ys = go (eqb x 0) (zero-append xs ys) where
-  go : (t : Bool) → allZero (xs ++ ys) ≡ (allZero xs && allZero ys) → (t && allZero (xs ++ ys)) ≡ ((t && allZero xs) && allZero ys)
-  go true e = e
-  go false e = refl
+zero-append (x ∷ xs) ys = rw (zero-append xs ys, and-assoc (eqb x 0) (allZero xs) (allZero ys))
 
 zero-one : (x : ℕ) → allZero (x ∷ []) ≡ eqb x 0
 unfolding allZero
-zero-one x = go (eqb x 0) where
-  go : (t : Bool) → (t && true) ≡ t
-  go true = refl
-  go false = refl
+zero-one x = and-true (eqb x 0)
 
 pub one-more : (s : List ℕ) (at i : ℕ) → at + i < length s
     → allZero (bytesFrom (i + 1) s at) ≡ (allZero (bytesFrom i s at) && eqb (getD s (at + i) 0) 0)
-one-more s at i h =
-    let k : i < length (drop at s) = simp length-drop (omega arith) in
-    rw (add-one i, take-suc (drop at s) i 0 k, zero-append (take i (drop at s)) (getD (drop at s) i 0 ∷ []), zero-one (getD (drop at s) i 0), getD-drop)
+one-more s at i h = rw (last-of-run i s at h, zero-append (bytesFrom i s at) _, zero-one)
 
 pub block-first : (n : ℕ) (s : List ℕ) (at : ℕ) → allZero (drop at s) ≡ (allZero (bytesFrom n s at) && allZero (drop (at + n) s))
-block-first n s at =
-    sym (ap allZero (take-append-drop n (drop at s)))
-    ∙ zero-append (take n (drop at s)) (drop n (drop at s))
-    ∙ ap (λ (l : List ℕ). allZero (take n (drop at s)) && allZero l) (drop-drop n at s)
+block-first n s at = ap allZero (run-first n s at) ∙ zero-append (bytesFrom n s at) (drop (at + n) s)
 
 pub zero-replicate : (n : ℕ) → allZero (replicate n 0) ≡ true
 unfolding allZero

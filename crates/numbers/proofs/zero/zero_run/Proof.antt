@@ -1,15 +1,14 @@
--- `store::zero::zero_run` meets its contract. The loop's invariant: the flag says whether the bytes passed are all zero. The measure is how many
+-- `numbers::zero::zero_run` meets its contract. The loop's invariant: the flag says whether the bytes passed are all zero. The measure is how many
 -- are left.
 use Prim.Native.Nat.{_-_, _≤_}
-use Rattle.numbers.specs.Numbers.{bytesFrom}
-use Rattle.store.proofs.ZeroLaws.{one-more, zero-none}
-use Rattle.xdr.specs.Items.{allZero}
+use Rattle.numbers.proofs.ZeroLaws.{one-more, zero-none}
+use Rattle.numbers.specs.Numbers.{allZero, bytesFrom}
 use borrow.Author.Needs.{needs}
 use denote.Ref.{now}
 use mathlib.Core.Path.{_≡_, sym}
 use native.Mathlib.Omega.{arith}
-use Rattle.store.proofs.zero.zero_run.Statement.{statement}
-use Rattle.store.proofs.zero.zero_run.Tie as tie
+use Rattle.numbers.proofs.zero.zero_run.Statement.{statement}
+use Rattle.numbers.proofs.zero.zero_run.Tie as tie
 
 abbrev Inv-loop : tie.InvT-loop
 Inv-loop s at n z₀ i₀ z i = (i ≤ n) × (z ≡ allZero (bytesFrom i s at))

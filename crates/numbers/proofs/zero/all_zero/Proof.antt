@@ -1,8 +1,8 @@
--- `store::zero::all_zero` meets its contract. The loop's invariant: the bytes passed are zero, so what is left decides. The measure is how many
+-- `numbers::zero::all_zero` meets its contract. The loop's invariant: the bytes passed are zero, so what is left decides. The measure is how many
 -- bytes are left.
 use Prim.Native.Nat.{_-_, _≤_}
-use Rattle.store.proofs.ZeroLaws.{block-first, zero-none}
-use Rattle.xdr.specs.Items.{allZero}
+use Rattle.numbers.proofs.ZeroLaws.{block-first, zero-none}
+use Rattle.numbers.specs.Numbers.{allZero}
 use borrow.Author.Needs.{needs}
 use borrow.Author.Tests.{not-false, not-true}
 use denote.Ref.{now}
@@ -10,8 +10,8 @@ use lib.ListN.{length, drop, drop-of-length-le, length-drop}
 use lib.Seq.{take-all}
 use mathlib.Core.Path.{_≡_, refl, sym, ap, _∙_}
 use native.Mathlib.Omega.{arith}
-use Rattle.store.proofs.zero.all_zero.Statement.{statement}
-use Rattle.store.proofs.zero.all_zero.Tie as tie
+use Rattle.numbers.proofs.zero.all_zero.Statement.{statement}
+use Rattle.numbers.proofs.zero.all_zero.Tie as tie
 
 abbrev Inv-loop : tie.InvT-loop
 Inv-loop s at len p₀ p = (p ≤ length s) × (allZero (drop at s) ≡ allZero (drop p s))
