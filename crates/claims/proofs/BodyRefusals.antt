@@ -180,12 +180,15 @@ report-faults s at =
     run (many-faults error-faults (h .errors) s p) refl λ es q.
     read
 
+reports-faults : (s : List ℕ) (at : ℕ) → FaultsIn (1 ∷ 5 ∷ 8 ∷ 27 ∷ []) (report.reportsAt s at)
+unfolding report.reportsAt
+reports-faults s at = run (count-faults 0 8 s at) refl λ n p. many-faults report-faults n s p
+
 pub report-refusals : (s : List ℕ) → RefusalsIn (1 ∷ 2 ∷ 5 ∷ 8 ∷ 27 ∷ []) (report.reportBody s)
 unfolding report.reportBody
 report-refusals s =
     whole-refusals s _
-    (run (count-faults 0 8 s 0) refl λ n p.
-    run (many-faults report-faults n s p) refl λ rs q.
+    (run (reports-faults s 0) refl λ rs q.
     run (count-faults 0 0 s q) refl λ statistics z.
     read)
     refl
@@ -205,6 +208,6 @@ judged-refusals (h ∷ hs) es = asked (one-refusals h _) refl λ u. judged-refus
 
 pub written-refusals : (count : ℕ) (heads : List ReportHead) (errors : List write.ErrorRecord) (room : ℕ)
     → RefusalsIn (5 ∷ 8 ∷ 26 ∷ 27 ∷ []) (write.reportsWritten count heads errors room)
-unfolding write.reportsWritten write.fitted
+unfolding write.reportsWritten write.bodyWritten write.fitted
 written-refusals count heads errors room =
     tested-answer _ 8 (tested-answer _ 8 (asked (judged-refusals _ _) refl λ u. tested-answer _ 26 accepts refl) refl) refl

@@ -23,7 +23,7 @@ use Rattle.layout.proofs.LayoutLaws.{accepted-parts}
 use Rattle.layout4.specs.Layout4s.{Whole, frameAt, layout4, layout4At, rangeAt}
 use Rattle.layout4.specs.declared.frame.Frame.{Frame}
 use Rattle.layout4.specs.declared.frame.Range.{Range}
-use Rattle.report.specs.Reports.{Report, errorAt, headAt, reportAt, reportBody}
+use Rattle.report.specs.Reports.{Report, errorAt, headAt, reportAt, reportBody, reportsAt}
 use Rattle.report.specs.declared.ErrorItem.{ErrorItem}
 use Rattle.report.specs.declared.ReportHead.{ReportHead}
 use Rattle.report_write.specs.Writing.{counts}
@@ -218,15 +218,15 @@ pub record ReportSize (s : List ℕ) (rs : List Report) : Type 0 where
   pub most : length s ≤ 3368
 
 pub report-body-size : (s : List ℕ) (rs : List Report) → reportBody s ≡ accepted rs → ReportSize s rs
-unfolding reportBody
+unfolding reportBody reportsAt
 report-body-size s rs h =
     let w = whole-read s _ rs h in
-    let n = ran _ _ rs (length s) w in
-    let m = ran _ _ rs (length s) (n .rest) in
+    let m = ran _ _ rs (length s) w in
+    let n = ran _ _ (m .item) (m .next) (m .first) in
     let z = ran _ _ rs (length s) (m .rest) in
     let nc = count-read 0 8 s 0 (n .item) (n .next) (n .first) in
-    let k : length (m .item) ≡ n .item = many-length reportAt (n .item) s (n .next) (m .item) (m .next) (m .first) in
-    let b = reports-size (n .item) s (n .next) (m .item) (m .next) (m .first) in
+    let k : length (m .item) ≡ n .item = many-length reportAt (n .item) s (n .next) (m .item) (m .next) (n .rest) in
+    let b = reports-size (n .item) s (n .next) (m .item) (m .next) (n .rest) in
     let zc = count-read 0 0 s (m .next) (z .item) (z .next) (z .first) in
     let e : z .next ≡ length s = same-place (z .rest) in
     let g : m .item ≡ rs = same-value (z .rest) in

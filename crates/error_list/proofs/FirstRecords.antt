@@ -12,7 +12,7 @@ use Rattle.base.specs.Answer.{Answer, accepted, refused, given, pick}
 use Rattle.base.specs.Ranges.{rangeLast}
 use Rattle.numbers.specs.Numbers.{beBytes}
 use Rattle.report.specs.declared.ReportHead.{ReportHead}
-use Rattle.report_write.specs.Writing.{allFit, bodyBytes, counts, ErrorRecord, errorsBytes, fitted, headBytes, judged, judgedOne, reportsBytes, reportsWritten}
+use Rattle.report_write.specs.Writing.{allFit, bodyBytes, bodyWritten, counts, ErrorRecord, errorsBytes, fitted, headBytes, judged, judgedOne, reportsBytes, reportsWritten}
 
 -- ---- lists that begin alike
 
@@ -70,11 +70,11 @@ reports-alike {B} (h ∷ hs) xs ys f e = go (leb (h .errors) 16) refl (reports-a
 
 pub firsts-decide : (count : ℕ) (heads : List ReportHead) (xs ys : List ErrorRecord) (room : ℕ) → length xs ≡ length ys → take 128 xs ≡ take 128 ys
     → reportsWritten count heads xs room ≡ reportsWritten count heads ys room
-unfolding reportsWritten bodyBytes pick
+unfolding reportsWritten bodyWritten bodyBytes pick
 firsts-decide count heads xs ys room l e = rw l (go (leb count 8) refl) where
   go : (t : Bool) → leb count 8 ≡ t
-      → pick t (pick (eqb (counts (take count heads)) (length ys)) (given (judged (take count heads) xs) (λ u. fitted (bodyBytes (take count heads) xs) room)) (refused 8)) (refused 8)
-      ≡ pick t (pick (eqb (counts (take count heads)) (length ys)) (given (judged (take count heads) ys) (λ u. fitted (bodyBytes (take count heads) ys) room)) (refused 8)) (refused 8)
+      → pick t (pick (eqb (counts (take count heads)) (length ys)) (given (judged (take count heads) xs) (λ u. fitted (bodyBytes (take count heads) xs (beBytes 4 0)) room)) (refused 8)) (refused 8)
+      ≡ pick t (pick (eqb (counts (take count heads)) (length ys)) (given (judged (take count heads) ys) (λ u. fitted (bodyBytes (take count heads) ys (beBytes 4 0)) room)) (refused 8)) (refused 8)
   go true k =
       let hs = take count heads in
       let few : count ≤ 8 = leb-true count 8 k in

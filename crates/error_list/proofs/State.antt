@@ -12,7 +12,7 @@ use native.Mathlib.Numerals.{add-one}
 use lib.ListN.{length, getD, take}
 use lib.Seq.{take-suc}
 use lib.WfN.{Nat·lt-wfRel}
-use Rattle.report_write.specs.Writing.{recordsFrom}
+use Rattle.report_write.specs.Writing.{recordsAt}
 use Rattle.error_list.specs.Records.{recordOf, recordsOf}
 use Rattle.error_list.specs.declared.ErrorRecord.{ErrorRecord}
 
@@ -20,8 +20,8 @@ use Rattle.error_list.specs.declared.ErrorRecord.{ErrorRecord}
 abbrev pub blank : ErrorRecord
 blank = record { device = []; status = 0; operation = 0 }
 
-pub none-taken : (ys : List ℕ) (es : List ErrorRecord) → recordsFrom 0 0 ys ≡ recordsOf (take 0 es)
-unfolding recordsFrom
+pub none-taken : (ys : List ℕ) (es : List ErrorRecord) → recordsAt 0 ys 0 ≡ recordsOf (take 0 es)
+unfolding recordsAt
 none-taken ys es = refl
 
 pub taken-more : (es : List ErrorRecord) (i : ℕ) → i < length es → recordsOf (take (i + 1) es) ≡ recordsOf (take i es) ++ (recordOf (getD es i blank) ∷ [])
@@ -32,7 +32,7 @@ pub record State (ys : List ℕ) (n : ℕ) (es : List ErrorRecord) : Type 0 wher
   pub zs : List ℕ
   pub upto : i ≤ n
   pub long : length zs ≡ length ys
-  pub same : recordsFrom i 0 zs ≡ recordsOf (take i es)
+  pub same : recordsAt i zs 0 ≡ recordsOf (take i es)
 
 module _ (ys : List ℕ) (n : ℕ) (es : List ErrorRecord) where
   abbrev pub Nearer : State ys n es → State ys n es → Type 0
@@ -57,13 +57,13 @@ module _ (ys : List ℕ) (n : ℕ) (es : List ErrorRecord) where
     pub next-fits : n < 2 ^ 64 → t .i < n → t .i + 1 < 2 ^ 64
     next-fits h k = omega arith
 
-    pub whole : (t .i < n → ⊥) → recordsFrom n 0 (t .zs) ≡ recordsOf (take n es)
+    pub whole : (t .i < n → ⊥) → recordsAt n (t .zs) 0 ≡ recordsOf (take n es)
     whole h =
         let e : t .i ≡ n = omega (arith, t .upto) in
         rw e at (t .same)
 
     module _ (within : n ≤ length es) where
-      abbrev pub next : (ws : List ℕ) → t .i < n → recordsFrom (t .i + 1) 0 ws ≡ recordsFrom (t .i) 0 (t .zs) ++ (recordOf elem ∷ [])
+      abbrev pub next : (ws : List ℕ) → t .i < n → recordsAt (t .i + 1) ws 0 ≡ recordsAt (t .i) (t .zs) 0 ++ (recordOf elem ∷ [])
           → length ws ≡ length (t .zs) → State ys n es
       next ws h e l = record {
         i = t .i + 1;

@@ -5,7 +5,7 @@ ghost use mathlib.Core.Path.{_≡_};
 ghost use mathlib.Core.List.{[], _∷_, _++_};
 ghost use Prim.Native.Nat.{_+_, _*_, _≤_, min};
 ghost use lib.ListN.{length, take};
-ghost use Rattle.report_write.specs.Writing.{outputAfter, recordsFrom, reportsWritten};
+ghost use Rattle.report_write.specs.Writing.{outputAfter, recordsAt, reportsWritten};
 ghost use Rattle.report_write.specs.Answers.{answerOfWritten, lengthOf};
 ghost use Rattle.error_list.specs.Records.{recordOf, recordsOf};
 
@@ -30,7 +30,7 @@ fn records_used(list_length: usize) -> usize
 // Record i of the wire records in a buffer. Those before it stay.
 fn put_record(buf: &mut [u8], i: usize, error: ErrorRecord)
     requires { ⌜ 24 * (i + 1) ≤ length (now buf) ⌝ }
-    ensures { λ r. ⌜ recordsFrom (i + 1) 0 (now (buf .exit)) ≡ recordsFrom i 0 (now (buf .entry)) ++ (recordOf error ∷ []) ⌝ }
+    ensures { λ r. ⌜ recordsAt (i + 1) (now (buf .exit)) 0 ≡ recordsAt i (now (buf .entry)) 0 ++ (recordOf error ∷ []) ⌝ }
 {
     let device = error.device;
     report_write::put_error(buf, 24 * i, &device, error.status, error.operation);
@@ -39,7 +39,7 @@ fn put_record(buf: &mut [u8], i: usize, error: ErrorRecord)
 // The first n records of the list, as wire records. Proved by hand, as the borrow checker covers no slice of structs.
 fn put_records(buf: &mut [u8], errors: &[ErrorRecord], n: usize)
     requires { ⌜ (n ≤ length (now errors)) × (24 * n ≤ length (now buf)) ⌝ }
-    ensures { λ r. ⌜ recordsFrom n 0 (now (buf .exit)) ≡ recordsOf (take n (now (errors .entry))) ⌝ }
+    ensures { λ r. ⌜ recordsAt n (now (buf .exit)) 0 ≡ recordsOf (take n (now (errors .entry))) ⌝ }
 {
     let mut i: usize = 0;
     while i < n {
@@ -47,20 +47,6 @@ fn put_records(buf: &mut [u8], errors: &[ErrorRecord], n: usize)
         put_record(buf, i, error);
         i += 1;
     }
-}
-
-// The body, from wire records by value.
-fn write_wire(
-    count: u32,
-    heads: [ReportHead; 8],
-    list_length: usize,
-    records: [u8; 3072],
-    out: &mut [u8],
-) -> Written
-    ensures { λ r. ⌜ (answerOfWritten r ≡ lengthOf (reportsWritten count heads (recordsFrom «list_length» 0 records) (length (now (out .entry)))))
-        × (now (out .exit) ≡ outputAfter (now (out .entry)) (reportsWritten count heads (recordsFrom «list_length» 0 records) (length (now (out .entry))))) ⌝ }
-{
-    report_write::write_reports(count, heads, list_length, &records, out)
 }
 
 // The body, from the list of errors. Proved by hand, as it hands the list on.
@@ -76,5 +62,5 @@ pub fn write_error_list(
     let n = records_used(errors.len());
     let mut records = [0u8; 3072];
     put_records(&mut records, errors, n);
-    write_wire(count, heads, errors.len(), records, out)
+    report_write::write_reports(count, heads, errors.len(), &records, out)
 }

@@ -16,7 +16,7 @@ use Rattle.xdr.specs.declared.Part.{Part}
 use Rattle.xdr.proofs.Accepted.{bytes-read, ran, same-value, same-place}
 use Rattle.xdr.proofs.EndLaws.{end-goes-on}
 use Rattle.xdr.proofs.ManyLaws.{first-then, none-then, refused-then}
-use Rattle.report.specs.Reports.{errorAt, headAt, Report, reportAt, reportBody}
+use Rattle.report.specs.Reports.{errorAt, headAt, Report, reportAt, reportBody, reportsAt}
 use Rattle.report.specs.Answers.{arraysFrom, blankHead, countOf, headFrom, headsOf, placesOf, reportsIn}
 use Rattle.report.specs.declared.ReportHead.{ReportHead}
 use Rattle.report.specs.declared.head.HeadItem.{HeadItem}
@@ -53,6 +53,9 @@ places-next done i r h k =
     let n : length (map f done) ≡ i = length-map done f ∙ h in
     rw (map-append f done (r ∷ [])) (padded-next 8 0 (map f done) i (r .errors-at) n k)
 
+abbrev arrays : List Report → ℕ → Res (ℕ × (List ReportHead × List ℕ))
+arrays rs q = ok (length rs, (headsOf rs, placesOf rs)) q
+
 pub arrays-next : (done : List Report) (m : ℕ) (s : List ℕ) (at : ℕ) (r : Report) (p : ℕ) → 0 < m → reportAt s at ≡ ok r p
     → arraysFrom done (manyAt reportAt m s at) ≡ arraysFrom (done ++ (r ∷ [])) (manyAt reportAt (m - 1) s p)
 unfolding arraysFrom
@@ -64,7 +67,7 @@ unfolding arraysFrom
 arrays-refused done m s at n h e = refused-then reportAt m s at _ n h e
 
 pub arrays-done : (done : List Report) (m : ℕ) (s : List ℕ) (at : ℕ) → m ≡ 0
-    → arraysFrom done (manyAt reportAt m s at) ≡ ok (headsOf done, placesOf done) at
+    → arraysFrom done (manyAt reportAt m s at) ≡ ok (length done, (headsOf done, placesOf done)) at
 unfolding arraysFrom
 arrays-done done m s at h = rw (none-then reportAt m s at _ h, append-nil done)
 
@@ -73,18 +76,25 @@ unfolding arraysFrom then
 arrays-no (ok rs p) n h = let z : _≡_ {A = ℕ} 0 1 = cc in absurd (omega arith)
 arrays-no (no k) n h = let e : k ≡ n = cc in rw e
 
-pub record Arrays (x : Res (List Report)) (hs : List ReportHead) (ps : List ℕ) (p : ℕ) : Type 0 where
+pub record Arrays (x : Res (List Report)) (n : ℕ) (hs : List ReportHead) (ps : List ℕ) (p : ℕ) : Type 0 where
   pub reports : List Report
   pub were : x ≡ ok reports p
+  pub count : n ≡ length reports
   pub heads : hs ≡ headsOf reports
   pub places : ps ≡ placesOf reports
 
-pub arrays-ok : (x : Res (List Report)) (hs : List ReportHead) (ps : List ℕ) (p : ℕ) → arraysFrom [] x ≡ ok (hs, ps) p → Arrays x hs ps p
+pub arrays-ok : (x : Res (List Report)) (n : ℕ) (hs : List ReportHead) (ps : List ℕ) (p : ℕ) → arraysFrom [] x ≡ ok (n, (hs, ps)) p → Arrays x n hs ps p
 unfolding arraysFrom then
-arrays-ok (ok rs q) hs ps p h =
-    let e : _≡_ {A = List ReportHead × List ℕ} (headsOf rs, placesOf rs) (hs, ps) = same-value h in
-    record { reports = rs; were = ap (ok rs) (same-place h); heads = sym (ap (λ (x : List ReportHead × List ℕ). x .0) e); places = sym (ap (λ (x : List ReportHead × List ℕ). x .1) e) }
-arrays-ok (no k) hs ps p h = let z : _≡_ {A = ℕ} 0 1 = cc in absurd (omega arith)
+arrays-ok (ok rs q) n hs ps p h =
+    let e : _≡_ {A = ℕ × (List ReportHead × List ℕ)} (length rs, (headsOf rs, placesOf rs)) (n, (hs, ps)) = same-value h in
+    record {
+      reports = rs;
+      were = ap (ok rs) (same-place h);
+      count = sym (ap (λ (x : ℕ × (List ReportHead × List ℕ)). x .0) e);
+      heads = sym (ap (λ (x : ℕ × (List ReportHead × List ℕ)). x .1 .0) e);
+      places = sym (ap (λ (x : ℕ × (List ReportHead × List ℕ)). x .1 .1) e);
+    }
+arrays-ok (no k) n hs ps p h = let z : _≡_ {A = ℕ} 0 1 = cc in absurd (omega arith)
 
 -- ---- the whole answer, by what the body is
 
@@ -100,11 +110,24 @@ pub answer-accepted : (b : Answer (List Report)) (rs : List Report) (a : Answer 
 unfolding countOf given
 answer-accepted b rs a hs ps e k = rw e k
 
+-- the body by the place where its statistics end
+pub body-ends : (s : List ℕ) → reportBody s ≡ whole s (then (reportsAt s 0) λ rs q. then (endOf (countAt 0 0 s q)) λ u z. ok rs z)
+unfolding reportBody then
+body-ends s = go (reportsAt s 0) where
+  go : (x : Res (List Report))
+      → whole s (then x λ rs q. then (countAt 0 0 s q) λ k z. ok rs z)
+      ≡ whole s (then x λ rs q. then (endOf (countAt 0 0 s q)) λ u z. ok rs z)
+  go (ok rs q) = ap (whole s) (sym (end-goes-on (countAt 0 0 s q) (λ z. ok rs z)))
+  go (no n) = refl
+
 -- the parts of an accepted body
-pub body-accepted : (s : List ℕ) (n p : ℕ) (rs : List Report) (q k z : ℕ) → countAt 0 8 s 0 ≡ ok n p → manyAt reportAt n s p ≡ ok rs q
-    → countAt 0 0 s q ≡ ok k z → z ≡ length s → reportBody s ≡ accepted rs
-unfolding reportBody then whole pick
-body-accepted s n p rs q k z a b c d = rw (a, b, c, eq-eqb z (length s) d)
+pub reports-accepted : (s : List ℕ) (at n p : ℕ) (rs : List Report) (q : ℕ) → countAt 0 8 s at ≡ ok n p → manyAt reportAt n s p ≡ ok rs q → reportsAt s at ≡ ok rs q
+unfolding reportsAt then
+reports-accepted s at n p rs q a b = rw (a, b)
+
+pub body-accepted : (s : List ℕ) (rs : List Report) (q z : ℕ) → reportsAt s 0 ≡ ok rs q → endOf (countAt 0 0 s q) ≡ ok tt z → z ≡ length s → reportBody s ≡ accepted rs
+unfolding then whole pick
+body-accepted s rs q z a b c = rw (body-ends s, a, b, eq-eqb z (length s) c)
 
 -- ---- an accepted report has a stateid of 16 bytes
 

@@ -63,12 +63,12 @@ abbrev pub answerOfCount : ReportAnswer → Answer ℕ
 answerOfCount (answer.Count n) = accepted n
 answerOfCount (answer.Refused e) = refused (faultNumber e)
 
--- both arrays, where the reports behind the ones already read were read
-unfoldable pub arraysFrom : List Report → Res (List Report) → Res (List ReportHead × List ℕ)
-arraysFrom done x = then x λ rs p. ok (headsOf (done ++ rs), placesOf (done ++ rs)) p
+-- the count and both arrays, where the reports behind the ones already read were read
+unfoldable pub arraysFrom : List Report → Res (List Report) → Res (ℕ × (List ReportHead × List ℕ))
+arraysFrom done x = then x λ rs p. ok (length (done ++ rs), (headsOf (done ++ rs), placesOf (done ++ rs))) p
 
-abbrev pub resOfArrays : ReadEnd → List ReportHead → List ℕ → Res (List ReportHead × List ℕ)
-resOfArrays (end.Value c) heads places = ok (heads, places) (c .at)
-resOfArrays (end.Refused e) heads places = no (faultNumber e)
+abbrev pub resOfArrays : ReadEnd → ℕ → List ReportHead → List ℕ → Res (ℕ × (List ReportHead × List ℕ))
+resOfArrays (end.Value c) n heads places = ok (n, (heads, places)) (c .at)
+resOfArrays (end.Refused e) n heads places = no (faultNumber e)
 
 -- ---- the refusal in an answer; of an answer with a value, the first of the refusals

@@ -6,6 +6,7 @@ use mathlib.Core.Bool.{Bool, _&&_, _||_, not}
 use lib.ListN.{length}
 use lib.Dec.{eqb}
 use Rattle.base.specs.Answer.{Answer, pick}
+use Rattle.base.specs.Limits.{mostReports}
 use Rattle.base.specs.Ranges.{rangeLast}
 use Rattle.numbers.specs.Numbers.{bytesFrom}
 use Rattle.xdr.specs.Res.{Res, ok, no, then, manyAt, whole, asItem}
@@ -49,11 +50,14 @@ reportAt s at =
     then (manyAt errorAt (h .errors) s p) λ es q.
     ok (record { head = h; errors-at = p }) q
 
+-- "Report count (0 to 8), reports"
+unfoldable pub reportsAt : List ℕ → ℕ → Res (List Report)
+reportsAt s at = then (countAt 0 mostReports s at) λ n p. manyAt reportAt n s p
+
 -- "Report count (0 to 8), reports, then a statistics count that must be 0 (else 8). .. Nothing may follow the body."
 unfoldable pub reportBody : List ℕ → Answer (List Report)
 reportBody s =
     whole s
-    (then (countAt 0 8 s 0) λ n p.
-    then (manyAt reportAt n s p) λ rs q.
+    (then (reportsAt s 0) λ rs q.
     then (countAt 0 0 s q) λ statistics z.
     ok rs z)

@@ -1,4 +1,4 @@
-// The whole body: the reports, the statistics count, and the end.
+// The whole body: the reports, then the statistics count, and the end.
 use crate::ReportHead;
 use crate::head::ReadReport;
 use crate::head::head_of;
@@ -13,8 +13,10 @@ ghost use Prim.Native.Nat.{_≤_};
 ghost use mathlib.Core.List.{[]};
 ghost use Rattle.base.specs.Answer.{refused as refusedBy};
 ghost use Rattle.base.specs.Refusals.{faultNumber};
-ghost use Rattle.xdr.specs.Res.{manyAt};
-ghost use Rattle.report.specs.Reports.{reportAt, reportBody};
+ghost use Rattle.xdr.specs.Answers.{resOfEnd};
+ghost use Rattle.xdr.specs.Items.{countAt};
+ghost use Rattle.xdr.specs.Res.{endOf, manyAt};
+ghost use Rattle.report.specs.Reports.{reportAt, reportBody, reportsAt};
 ghost use Rattle.report.specs.Answers.{answerOfCount, blankHead, countOf, headsOf, placesOf, reportsIn, resOfArrays, arraysFrom};
 
 pub enum ReportAnswer {
@@ -29,9 +31,10 @@ pub struct ReportsRead {
     pub errors_at: [usize; 8],
 }
 
-// The same, before the rest of the body is read.
+// The first half of the body: how many reports it has, and the same arrays; `end` is the place behind the reports.
 pub struct Arrays {
     pub end: ReadEnd,
+    pub count: u32,
     pub heads: [ReportHead; 8],
     pub errors_at: [usize; 8],
 }
@@ -50,7 +53,7 @@ fn blank_head() -> ReportHead
 
 fn read_arrays(s: &[u8], c: Cursor, n: u32) -> Arrays
     requires { ⌜ n ≤ 8 ⌝ }
-    ensures { λ r. ⌜ resOfArrays (r .end) (r .heads) (r .«errors_at») ≡ arraysFrom [] (manyAt reportAt n (now (s .entry)) (c .at)) ⌝ }
+    ensures { λ r. ⌜ resOfArrays (r .end) (r .count) (r .heads) (r .«errors_at») ≡ arraysFrom [] (manyAt reportAt n (now (s .entry)) (c .at)) ⌝ }
 {
     let blank = blank_head();
     let mut heads = [blank; 8];
@@ -65,6 +68,7 @@ fn read_arrays(s: &[u8], c: Cursor, n: u32) -> Arrays
             let end = ReadEnd::Refused(why);
             return Arrays {
                 end: end,
+                count: n,
                 heads: heads,
                 errors_at: errors_at,
             };
@@ -78,9 +82,39 @@ fn read_arrays(s: &[u8], c: Cursor, n: u32) -> Arrays
     let end = ReadEnd::Value(d);
     Arrays {
         end: end,
+        count: n,
         heads: heads,
         errors_at: errors_at,
     }
+}
+
+// The first half: the count and the reports.
+fn reports_part(s: &[u8]) -> Arrays
+    ensures { λ r. ⌜ resOfArrays (r .end) (r .count) (r .heads) (r .«errors_at») ≡ arraysFrom [] (reportsAt (now (s .entry)) 0) ⌝ }
+{
+    let r = xdr::read_count(s, Cursor { at: 0 }, 0, base::MOST_REPORTS as u32);
+    let ReadU32::Value(n, c) = r else {
+        let end = ReadEnd::Refused(xdr::why_u32(r));
+        let blank = blank_head();
+        return Arrays {
+            end: end,
+            count: 0,
+            heads: [blank; base::MOST_REPORTS],
+            errors_at: [0usize; base::MOST_REPORTS],
+        };
+    };
+    read_arrays(s, c, n)
+}
+
+// Where the statistics behind the reports end: there must be none.
+fn statistics_end(s: &[u8], c: Cursor) -> ReadEnd
+    ensures { λ r. ⌜ resOfEnd r ≡ endOf (countAt 0 0 (now (s .entry)) (c .at)) ⌝ }
+{
+    let r = xdr::read_count(s, c, 0, 0);
+    let ReadU32::Value(_, d) = r else {
+        return ReadEnd::Refused(xdr::why_u32(r));
+    };
+    ReadEnd::Value(d)
 }
 
 fn refused(e: Fault) -> ReportsRead
@@ -103,25 +137,21 @@ pub fn read_reports(s: &[u8]) -> ReportsRead
         × (r .heads ≡ headsOf (reportsIn (reportBody (now (s .entry)))))
         × (r .«errors_at» ≡ placesOf (reportsIn (reportBody (now (s .entry))))) ⌝ }
 {
-    let rn = xdr::read_count(s, Cursor { at: 0 }, 0, 8);
-    let ReadU32::Value(n, c1) = rn else {
-        return refused(xdr::why_u32(rn));
-    };
-    let arrays = read_arrays(s, c1, n);
-    let end = arrays.end;
-    let ReadEnd::Value(c2) = end else {
+    let part = reports_part(s);
+    let end = part.end;
+    let ReadEnd::Value(c) = end else {
         return refused(xdr::why_end(end));
     };
-    let rk = xdr::read_count(s, c2, 0, 0);
-    let ReadU32::Value(_, c3) = rk else {
-        return refused(xdr::why_u32(rk));
+    let last = statistics_end(s, c);
+    let ReadEnd::Value(d) = last else {
+        return refused(xdr::why_end(last));
     };
-    if c3.at != s.len() {
+    if d.at != s.len() {
         return refused(Fault::BytesLeftOver);
     }
-    let answer = ReportAnswer::Count(n);
-    let heads = arrays.heads;
-    let errors_at = arrays.errors_at;
+    let answer = ReportAnswer::Count(part.count);
+    let heads = part.heads;
+    let errors_at = part.errors_at;
     ReportsRead {
         answer: answer,
         heads: heads,

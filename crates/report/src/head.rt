@@ -14,7 +14,6 @@ ghost use Rattle.xdr.specs.Res.{faultIn};
 ghost use Rattle.base.specs.Refusals.{faultNumber};
 ghost use Prim.Native.Nat.{_+_, _≤_};
 ghost use lib.ListN.{length};
-ghost use Rattle.base.specs.Ranges.{answerOfLast, rangeLast};
 ghost use Rattle.numbers.specs.Numbers.{bytesFrom};
 ghost use Rattle.report.specs.Reports.{headAt, reportAt};
 ghost use Rattle.report.specs.Answers.{headFrom, resOfHead, resOfReport};
@@ -65,13 +64,6 @@ pub(crate) fn head_of(s: &[u8], item: HeadItem) -> ReportHead
     }
 }
 
-// The pair obeys the range rule, not the rule for I/O requests.
-fn pair_last(offset: u64, len: u64) -> Last
-    ensures { λ r. ⌜ answerOfLast r ≡ rangeLast offset len ⌝ }
-{
-    base::range_last(offset, len)
-}
-
 pub(crate) fn read_head(s: &[u8], c: Cursor) -> ReadHead
     ensures { λ r. ⌜ resOfHead (now (s .entry)) r ≡ headAt (now (s .entry)) (c .at) ⌝ }
 {
@@ -83,7 +75,8 @@ pub(crate) fn read_head(s: &[u8], c: Cursor) -> ReadHead
     let ReadU64::Value(length, c2) = rl else {
         return ReadHead::Refused(xdr::why_u64(rl));
     };
-    let last = pair_last(offset, length);
+    // The pair obeys the range rule, not the rule for I/O requests.
+    let last = base::range_last(offset, length);
     let Last::At(_) = last else {
         return ReadHead::Refused(base::why_last(last));
     };

@@ -20,94 +20,72 @@ use Rattle.report.specs.Reports.{errorAt, errorFits, headAt, Report, reportAt}
 use Rattle.report.specs.declared.ErrorItem.{ErrorItem}
 use Rattle.report.specs.declared.ReportHead.{ReportHead}
 use Rattle.xdr.proofs.ManyLaws.{many-none}
-use Rattle.report_write.specs.Places.{recordsAt, recordsIn}
-use Rattle.report_write.specs.Writing.{allFit, counts, ErrorRecord, errorBytes, errorsBytes, headBytes, judged, judgedOne, recordHere, reportsBytes}
-use Rattle.report_write.proofs.Standing.{be-at-stands, be-stands, bytes-are, Stands, stands-join}
-use Rattle.report_write.proofs.StoringLaws.{length-error, length-head}
+use Rattle.report_write.specs.Places.{recordsIn}
+use Rattle.report_write.specs.Writing.{allFit, counts, ErrorRecord, errorsBytes, headBytes, judged, judgedOne, recordHere, recordsAt, reportsBytes}
+use Rattle.report_write.proofs.RecordLaws.{length-records}
+use Rattle.report_write.proofs.Standing.{be-stands, bytes-are, Stands, stands-join}
+use Rattle.report_write.proofs.StoringLaws.{length-errors, length-head, records-back}
 
 -- ---- an error
 
 pub record ErrorBack (s : List ℕ) (at p : ℕ) : Type 0 where
-  pub stands : Stands (errorBytes (recordHere s at)) s at
-  pub size : length (errorBytes (recordHere s at)) ≡ 24
   pub place : p ≡ at + 24
+  pub within : p ≤ length s
   pub fits : errorFits (recordHere s at .status) (recordHere s at .operation) ≡ true
-
-record-back : (s : List ℕ) (at : ℕ) → AllBytes s → at + 24 ≤ length s → Stands (errorBytes (recordHere s at)) s at
-unfolding errorBytes recordHere
-record-back s at b r =
-    let d = bytesFrom 16 s at in
-    let st = beBytes 4 (beAt 4 s (at + 16)) in
-    let op = beBytes 4 (beAt 4 s (at + 20)) in
-    let d16 : length d ≡ 16 = length-bytes 16 s at (omega (arith, r)) in
-    let st4 = length-be 4 (beAt 4 s (at + 16)) in
-    stands-join d (st ++ op) s at (at + 16) (omega (arith, d16)) (bytes-are 16 s at (omega (arith, r)))
-    (stands-join st op s (at + 16) (at + 20) (omega (arith, st4)) (be-at-stands 4 s (at + 16) b (omega (arith, r))) (be-at-stands 4 s (at + 20) b (omega (arith, r))))
 
 num-at : (k : ℕ) (s : List ℕ) (at v p : ℕ) → numAt k s at ≡ ok v p → v ≡ beAt k s at
 num-at k s at v p h = let g = number-read k s at v p h in same-value (sym h ∙ num-there k s at (omega (arith, g .end, g .within)))
 
-error-parts : (s : List ℕ) (at : ℕ) (d : Part) (p1 st p2 op p3 : ℕ) → AllBytes s → bytesAt 16 s at ≡ ok d p1 → numAt 4 s p1 ≡ ok st p2
+error-parts : (s : List ℕ) (at : ℕ) (d : Part) (p1 st p2 op p3 : ℕ) → bytesAt 16 s at ≡ ok d p1 → numAt 4 s p1 ≡ ok st p2
     → numAt 4 s p2 ≡ ok op p3 → errorFits st op ≡ true → ErrorBack s at p3
 unfolding recordHere
-error-parts s at d p1 st p2 op p3 b x y z f =
+error-parts s at d p1 st p2 op p3 x y z f =
     let i = bytes-read 16 s at d p1 x in
     let j = number-read 4 s p1 st p2 y in
     let k = number-read 4 s p2 op p3 z in
     let e1 : p1 ≡ at + 16 = omega (arith, i .end) in
     let e2 : p2 ≡ at + 20 = omega (arith, i .end, j .end) in
     let e3 : p3 ≡ at + 24 = omega (arith, i .end, j .end, k .end) in
-    let r : at + 24 ≤ length s = omega (arith, e3, k .within) in
     let u : st ≡ beAt 4 s (at + 16) = num-at 4 s p1 st p2 y ∙ ap (beAt 4 s) e1 in
     let v : op ≡ beAt 4 s (at + 20) = num-at 4 s p2 op p3 z ∙ ap (beAt 4 s) e2 in
-    let n : length (bytesFrom 16 s at) ≡ 16 = length-bytes 16 s at (omega (arith, r)) in
-    record { stands = record-back s at b r; size = length-error (recordHere s at) ∙ omega (arith, n); place = e3; fits = rw (← u, ← v) f }
+    record { place = e3; within = k .within; fits = rw (← u, ← v) f }
 
-pub error-back : (s : List ℕ) (at : ℕ) (e : ErrorItem) (p : ℕ) → AllBytes s → errorAt s at ≡ ok e p → ErrorBack s at p
+pub error-back : (s : List ℕ) (at : ℕ) (e : ErrorItem) (p : ℕ) → errorAt s at ≡ ok e p → ErrorBack s at p
 unfolding errorAt
-error-back s at e p b h =
+error-back s at e p h =
     let x = ran _ _ _ _ h in
     let y = ran _ _ _ _ (x .rest) in
     let z = ran _ _ _ _ (y .rest) in
     let k = passed (errorFits (y .item) (z .item)) _ 27 e p (z .rest) in
-    rw (← same-place (k .chosen)) (error-parts s at (x .item) (x .next) (y .item) (y .next) (z .item) (z .next) b (x .first) (y .first) (z .first) (k .test))
+    rw (← same-place (k .chosen)) (error-parts s at (x .item) (x .next) (y .item) (y .next) (z .item) (z .next) (x .first) (y .first) (z .first) (k .test))
 
 -- ---- a run of errors
 
 pub record ErrorsBack (n : ℕ) (s : List ℕ) (at p : ℕ) : Type 0 where
-  pub stands : Stands (errorsBytes (recordsAt n s at)) s at
-  pub size : length (errorsBytes (recordsAt n s at)) ≡ 24 * n
   pub place : p ≡ at + 24 * n
+  pub within : p ≤ length s
   pub fits : allFit (recordsAt n s at) ≡ true
 
 errors-more : (n : ℕ) (s : List ℕ) (at p q : ℕ) → ErrorBack s at p → ErrorsBack n s p q → ErrorsBack (suc n) s at q
-unfolding errorsBytes recordsAt allFit
+unfolding recordsAt allFit
 errors-more n s at p q x y =
-    let e = recordHere s at in
-    let n24 = x .size in
     let y' : ErrorsBack n s (at + 24) q = rw (x .place) at y in
-    record {
-      stands = stands-join (errorBytes e) (errorsBytes (recordsAt n s (at + 24))) s at (at + 24) (omega (arith, n24)) (x .stands) (y' .stands);
-      size = rw (length-append (errorBytes e) (errorsBytes (recordsAt n s (at + 24)))) (omega (arith, n24, y' .size));
-      place = omega (arith, y' .place);
-      fits = rw (x .fits) (y' .fits);
-    }
+    record { place = omega (arith, y' .place); within = y' .within; fits = rw (x .fits) (y' .fits) }
 
 no-errors : (s : List ℕ) (at p : ℕ) → at ≤ length s → p ≡ at → ErrorsBack zero s at p
-unfolding errorsBytes recordsAt allFit
-no-errors s at p r e = record { stands = record { room = omega (arith, r); same = refl }; size = refl; place = omega (arith, e); fits = refl }
+unfolding recordsAt allFit
+no-errors s at p r e = record { place = omega (arith, e); within = omega (arith, r, e); fits = refl }
 
-pub errors-back : (n : ℕ) (s : List ℕ) (at : ℕ) (xs : List ErrorItem) (p : ℕ) → AllBytes s → at ≤ length s → manyAt errorAt n s at ≡ ok xs p → ErrorsBack n s at p
+pub errors-back : (n : ℕ) (s : List ℕ) (at : ℕ) (xs : List ErrorItem) (p : ℕ) → at ≤ length s → manyAt errorAt n s at ≡ ok xs p → ErrorsBack n s at p
 unfolding manyAt
-errors-back zero s at xs p b r h = none (same-place h) where
+errors-back zero s at xs p r h = none (same-place h) where
   none : at ≡ p → ErrorsBack zero s at p
   none e = no-errors s at p r (sym e)
-errors-back (suc n) s at xs p b r h =
+errors-back (suc n) s at xs p r h =
     let x = ran _ _ _ _ h in
     let y = ran _ _ _ _ (x .rest) in
-    let f = error-back s at (x .item) (x .next) b (x .first) in
-    let m : x .next ≤ length s = omega (arith, f .stands .room, f .size, f .place) in
-    let g = errors-back n s (x .next) (y .item) (y .next) b m (y .first) in
+    let f = error-back s at (x .item) (x .next) (x .first) in
+    let g = errors-back n s (x .next) (y .item) (y .next) (f .within) (y .first) in
     rw (← same-place (y .rest)) (errors-more n s at (x .next) (y .next) f g)
 
 -- ---- a head
@@ -184,11 +162,6 @@ pub record ReportsBack (rs : List Report) (s : List ℕ) (at p : ℕ) : Type 0 w
   pub allowed : judged (heads rs) (recordsIn s rs) ≡ accepted tt
   pub sum : counts (heads rs) ≡ length (recordsIn s rs)
 
-length-records-at : (n : ℕ) (s : List ℕ) (at : ℕ) → length (recordsAt n s at) ≡ n
-unfolding recordsAt
-length-records-at zero s at = refl
-length-records-at (suc n) s at = ap suc (length-records-at n s (at + 24))
-
 judged-one : (h : ReportHead) (es : List ErrorRecord) (last : ℕ) → rangeLast (h .offset) (h .length) ≡ accepted last → 1 ≤ h .errors → h .errors ≤ 16
     → allFit es ≡ true → judgedOne h es ≡ accepted tt
 unfolding judgedOne given pick
@@ -199,23 +172,25 @@ unfolding reportsBytes judged counts recordsIn
 no-reports s at p r e = record { stands = record { room = omega (arith, r); same = refl }; place = omega (arith, e); allowed = refl; sum = refl }
 
 -- one report before those behind it
-reports-more : (h : ReportHead) (rs : List Report) (s : List ℕ) (at p1 p2 p3 : ℕ) → HeadBack h s at p1 → ErrorsBack (h .errors) s p1 p2 → ReportsBack rs s p2 p3
+reports-more : (h : ReportHead) (rs : List Report) (s : List ℕ) (at p1 p2 p3 : ℕ) → AllBytes s → HeadBack h s at p1 → ErrorsBack (h .errors) s p1 p2 → ReportsBack rs s p2 p3
     → ReportsBack (record { head = h; errors-at = p1 } ∷ rs) s at p3
 unfolding reportsBytes judged counts recordsIn given
-reports-more h rs s at p1 p2 p3 x y z =
+reports-more h rs s at p1 p2 p3 i x y z =
     let xs = recordsAt (h .errors) s p1 in
     let ys = recordsIn s rs in
     let hs = heads rs in
-    let n : length xs ≡ h .errors = length-records-at (h .errors) s p1 in
+    let n : length xs ≡ h .errors = length-records (h .errors) s p1 in
     let t : take (h .errors) (xs ++ ys) ≡ xs = take-at xs ys (h .errors) n in
     let d : drop (h .errors) (xs ++ ys) ≡ ys = drop-at xs ys (h .errors) n in
+    let r : p1 + 24 * h .errors ≤ length s = omega (arith, y .place, y .within) in
+    let m = length-errors (h .errors) s p1 r in
     let a = length-append (errorsBytes xs) (reportsBytes hs ys) in
     let b = length-append (headBytes h) (errorsBytes xs ++ reportsBytes hs ys) in
     record {
       stands = rw (t, d)
           (stands-join (headBytes h) (errorsBytes xs ++ reportsBytes hs ys) s at p1 (omega (arith, x .place, x .size)) (x .stands)
-          (stands-join (errorsBytes xs) (reportsBytes hs ys) s p1 p2 (omega (arith, y .place, y .size)) (y .stands) (z .stands)));
-      place = rw (t, d) (omega (arith, a, b, x .place, x .size, y .place, y .size, z .place));
+          (stands-join (errorsBytes xs) (reportsBytes hs ys) s p1 p2 (omega (arith, y .place, m)) (records-back (h .errors) s p1 i r) (z .stands)));
+      place = rw (t, d) (omega (arith, a, b, x .place, x .size, y .place, m, z .place));
       allowed = rw (t, d, judged-one h xs (x .last) (x .range) (x .some) (x .few) (y .fits)) (z .allowed);
       sum = rw (length-append xs ys) (omega (arith, n, z .sum));
     }
@@ -245,9 +220,8 @@ reports-back (suc n) s at rs p b r h =
     let c = report-parts s at (a .0) (a .1) (a .3) in
     let x = head-back s at (c .0) (c .1) b (c .3) in
     let m : c .1 ≤ length s = omega (arith, x .stands .room, x .size, x .place) in
-    let y = errors-back (c .0 .errors) s (c .1) (c .2) (a .1) b m (c .4) in
-    let k : a .1 ≤ length s = omega (arith, y .stands .room, y .size, y .place) in
-    let z = reports-back n s (a .1) (a .2) p b k (a .4) in
-    go rs (a .0) (a .2) (a .5) (c .5) (reports-more (c .0) (a .2) s at (c .1) (a .1) p x y z) where
+    let y = errors-back (c .0 .errors) s (c .1) (c .2) (a .1) m (c .4) in
+    let z = reports-back n s (a .1) (a .2) p b (y .within) (a .4) in
+    go rs (a .0) (a .2) (a .5) (c .5) (reports-more (c .0) (a .2) s at (c .1) (a .1) p b x y z) where
       go : (rs : List Report) (r : Report) (qs : List Report) {r' : Report} → rs ≡ r ∷ qs → r ≡ r' → ReportsBack (r' ∷ qs) s at p → ReportsBack rs s at p
       go rs r qs e f w = rw (e, f) w

@@ -4,7 +4,6 @@ use mathlib.Core.Path.{_≡_, refl, ap}
 use mathlib.Core.List.{List, [], _∷_, _++_}
 use mathlib.Core.Bool.{Bool, true, _&&_}
 use native.Mathlib.Omega.{arith}
-use native.Mathlib.Nat.{add-zero}
 use native.Mathlib.Numerals.{add-one}
 use borrow.Author.Tests.{leb-true}
 use lib.Dec.{leb}
@@ -16,7 +15,7 @@ use Rattle.base.proofs.AnswerLaws.{both, gave, pick-accepted}
 use Rattle.numbers.specs.Numbers.{beAt}
 use Rattle.report.specs.Reports.{errorFits}
 use Rattle.report.specs.declared.ReportHead.{ReportHead}
-use Rattle.report_write.specs.Writing.{allFit, counts, ErrorRecord, errorsBytes, headBytes, judged, judgedOne, recordAt, recordHere, recordsFrom, reportsBytes}
+use Rattle.report_write.specs.Writing.{allFit, counts, ErrorRecord, errorsBytes, headBytes, judged, judgedOne, recordHere, recordsAt, reportsBytes}
 
 -- what stands in no place of an array
 abbrev pub noHead : ReportHead
@@ -42,66 +41,69 @@ counts-none hs i m h = rw h
 
 -- ---- one record after the other
 
-pub records-next : (n i : ℕ) (errors : List ℕ) → 0 < n → recordsFrom n i errors ≡ recordAt errors i ∷ recordsFrom (n - 1) (i + 1) errors
-unfolding recordsFrom
-records-next zero i errors h = absurd (omega arith)
-records-next (suc n) i errors h = let e : suc n - 1 ≡ n = omega arith in rw e
+pub records-next : (n : ℕ) (s : List ℕ) (at : ℕ) → 0 < n → recordsAt n s at ≡ recordHere s at ∷ recordsAt (n - 1) s (at + 24)
+unfolding recordsAt
+records-next zero s at h = absurd (omega arith)
+records-next (suc n) s at h = let e : suc n - 1 ≡ n = omega arith in rw e
 
-pub length-records : (n i : ℕ) (errors : List ℕ) → length (recordsFrom n i errors) ≡ n
-unfolding recordsFrom
-length-records zero i errors = refl
-length-records (suc n) i errors = ap suc (length-records n (i + 1) errors)
+pub length-records : (n : ℕ) (s : List ℕ) (at : ℕ) → length (recordsAt n s at) ≡ n
+unfolding recordsAt
+length-records zero s at = refl
+length-records (suc n) s at = ap suc (length-records n s (at + 24))
 
 -- the records of a report, and those behind them
-pub take-records : (m n i : ℕ) (errors : List ℕ) → take m (recordsFrom (m + n) i errors) ≡ recordsFrom m i errors
-unfolding recordsFrom
-take-records zero n i errors = refl
-take-records (suc m) n i errors =
+pub take-records : (m n : ℕ) (s : List ℕ) (at : ℕ) → take m (recordsAt (m + n) s at) ≡ recordsAt m s at
+unfolding recordsAt
+take-records zero n s at = refl
+take-records (suc m) n s at =
     let e : suc m + n ≡ suc (m + n) = omega arith in
-    rw e (ap {B = List ErrorRecord} (λ es. recordAt errors i ∷ es) (take-records m n (i + 1) errors))
+    rw e (ap {B = List ErrorRecord} (λ es. recordHere s at ∷ es) (take-records m n s (at + 24)))
 
-pub drop-records : (m n i : ℕ) (errors : List ℕ) → drop m (recordsFrom (m + n) i errors) ≡ recordsFrom n (i + m) errors
-unfolding recordsFrom
-drop-records zero n i errors = let e : 0 + n ≡ n = omega arith in rw (e, add-zero i)
-drop-records (suc m) n i errors =
+pub drop-records : (m n : ℕ) (s : List ℕ) (at : ℕ) → drop m (recordsAt (m + n) s at) ≡ recordsAt n s (at + 24 * m)
+unfolding recordsAt
+drop-records zero n s at =
+    let e : 0 + n ≡ n = omega arith in
+    let f : at + 24 * 0 ≡ at = omega arith in
+    rw (e, f)
+drop-records (suc m) n s at =
     let e : suc m + n ≡ suc (m + n) = omega arith in
-    let f : i + suc m ≡ i + 1 + m = omega arith in
-    rw (e, f) (drop-records m n (i + 1) errors)
+    let f : at + 24 * suc m ≡ at + 24 + 24 * m = omega arith in
+    rw (e, f) (drop-records m n s (at + 24))
 
 -- ---- what is judged, step by step
 
-pub fits-next : (n k : ℕ) (errors : List ℕ) (status operation : ℕ) (t : Bool) → 0 < n
-    → status ≡ beAt 4 errors (24 * k + 16) → operation ≡ beAt 4 errors (24 * k + 20) → t ≡ errorFits status operation
-    → allFit (recordsFrom n k errors) ≡ (t && allFit (recordsFrom (n - 1) (k + 1) errors))
-unfolding allFit recordAt recordHere
-fits-next n k errors status operation t h a b e = rw (records-next n k errors h, ← a, ← b, ← e)
+pub fits-next : (n : ℕ) (s : List ℕ) (at status operation : ℕ) (t : Bool) → 0 < n
+    → status ≡ beAt 4 s (at + 16) → operation ≡ beAt 4 s (at + 20) → t ≡ errorFits status operation
+    → allFit (recordsAt n s at) ≡ (t && allFit (recordsAt (n - 1) s (at + 24)))
+unfolding allFit recordHere
+fits-next n s at status operation t h a b e = rw (records-next n s at h, ← a, ← b, ← e)
 
-pub fits-none : (n k : ℕ) (errors : List ℕ) → n ≡ 0 → allFit (recordsFrom n k errors) ≡ true
-unfolding allFit recordsFrom
-fits-none n k errors h = rw h
+pub fits-none : (n : ℕ) (s : List ℕ) (at : ℕ) → n ≡ 0 → allFit (recordsAt n s at) ≡ true
+unfolding allFit recordsAt
+fits-none n s at h = rw h
 
 -- the heads left, and the records that they use
-pub judged-next : (hs : List ReportHead) (i m k : ℕ) (errors : List ℕ) → i < length hs → 0 < m
-    → judged (take m (drop i hs)) (recordsFrom (counts (take m (drop i hs))) k errors)
-    ≡ given (judgedOne (getD hs i noHead) (recordsFrom (getD hs i noHead .errors) k errors))
-    (λ u. judged (take (m - 1) (drop (i + 1) hs)) (recordsFrom (counts (take (m - 1) (drop (i + 1) hs))) (k + getD hs i noHead .errors) errors))
+pub judged-next : (hs : List ReportHead) (i m : ℕ) (s : List ℕ) (at : ℕ) → i < length hs → 0 < m
+    → judged (take m (drop i hs)) (recordsAt (counts (take m (drop i hs))) s at)
+    ≡ given (judgedOne (getD hs i noHead) (recordsAt (getD hs i noHead .errors) s at))
+    (λ u. judged (take (m - 1) (drop (i + 1) hs)) (recordsAt (counts (take (m - 1) (drop (i + 1) hs))) s (at + 24 * getD hs i noHead .errors)))
 unfolding judged counts
-judged-next hs i m k errors h n =
+judged-next hs i m s at h n =
     let c = counts (take (m - 1) (drop (i + 1) hs)) in
-    rw (next-head hs i m h n, take-records (getD hs i noHead .errors) c k errors, drop-records (getD hs i noHead .errors) c k errors)
+    rw (next-head hs i m h n, take-records (getD hs i noHead .errors) c s at, drop-records (getD hs i noHead .errors) c s at)
 
 pub judged-none : (hs : List ReportHead) (i m : ℕ) (es : List ErrorRecord) → m ≡ 0 → judged (take m (drop i hs)) es ≡ accepted tt
 unfolding judged
 judged-none hs i m es h = rw h
 
-pub reports-next : (hs : List ReportHead) (i m k : ℕ) (errors : List ℕ) → i < length hs → 0 < m
-    → reportsBytes (take m (drop i hs)) (recordsFrom (counts (take m (drop i hs))) k errors)
-    ≡ headBytes (getD hs i noHead) ++ (errorsBytes (recordsFrom (getD hs i noHead .errors) k errors)
-    ++ reportsBytes (take (m - 1) (drop (i + 1) hs)) (recordsFrom (counts (take (m - 1) (drop (i + 1) hs))) (k + getD hs i noHead .errors) errors))
+pub reports-next : (hs : List ReportHead) (i m : ℕ) (s : List ℕ) (at : ℕ) → i < length hs → 0 < m
+    → reportsBytes (take m (drop i hs)) (recordsAt (counts (take m (drop i hs))) s at)
+    ≡ headBytes (getD hs i noHead) ++ (errorsBytes (recordsAt (getD hs i noHead .errors) s at)
+    ++ reportsBytes (take (m - 1) (drop (i + 1) hs)) (recordsAt (counts (take (m - 1) (drop (i + 1) hs))) s (at + 24 * getD hs i noHead .errors)))
 unfolding reportsBytes counts
-reports-next hs i m k errors h n =
+reports-next hs i m s at h n =
     let c = counts (take (m - 1) (drop (i + 1) hs)) in
-    rw (next-head hs i m h n, take-records (getD hs i noHead .errors) c k errors, drop-records (getD hs i noHead .errors) c k errors)
+    rw (next-head hs i m h n, take-records (getD hs i noHead .errors) c s at, drop-records (getD hs i noHead .errors) c s at)
 
 pub reports-none : (hs : List ReportHead) (i m : ℕ) (es : List ErrorRecord) → m ≡ 0 → reportsBytes (take m (drop i hs)) es ≡ []
 unfolding reportsBytes

@@ -12,14 +12,15 @@ use lib.Seq.{length-take-le, sets, sets-eq, length-sets}
 use Rattle.base.specs.Answer.{Answer, accepted, refused, given, pick}
 use Rattle.base.proofs.AnswerLaws.{both, gave}
 use Rattle.buffers.specs.Buffers.{stored}
-use Rattle.numbers.specs.Numbers.{beAt, beBytes, beValue, bytesFrom}
+use Rattle.numbers.specs.Numbers.{AllBytes, beAt, beBytes, beValue, bytesFrom}
 use Rattle.numbers.proofs.NumberLaws.{length-be, length-bytes}
 use Rattle.buffers.proofs.StoredLaws.{fits-stored, length-stored, sets-append, stored-then}
 use Rattle.report.specs.Reports.{errorFits}
 use Rattle.report.specs.declared.ReportHead.{ReportHead}
-use Rattle.report_write.specs.Writing.{outputAfter, allFit, bodyBytes, counts, ErrorRecord, errorBytes, errorsBytes, fitted, headBytes, judged, judgedOne, recordAt, recordHere, recordsFrom, reportsBytes, reportsWritten, stateidsWhole}
+use Rattle.report_write.specs.Writing.{outputAfter, allFit, bodyBytes, bodyWritten, counts, ErrorRecord, errorBytes, errorsBytes, fitted, headBytes, judged, judgedOne, recordHere, recordsAt, reportsBytes, stateidsWhole}
 use Rattle.report_write.specs.Answers.{lengthOf}
-use Rattle.report_write.proofs.RecordLaws.{allowed, drop-records, length-records, records-next, take-records}
+use Rattle.report_write.proofs.RecordLaws.{allowed, drop-records, length-records, take-records}
+use Rattle.report_write.proofs.Standing.{be-at-stands, bytes-are, Stands, stands-join}
 
 -- ---- how long each part is
 
@@ -31,38 +32,61 @@ pub length-head : (h : ReportHead) → length (h .stateid) ≡ 16 → length (he
 unfolding headBytes
 length-head h e = simp (length-append, length-be 8 (h .offset), length-be 8 (h .length), length-be 4 (h .errors)) (omega arith)
 
-pub length-record : (errors : List ℕ) (i : ℕ) → 24 * (i + 1) ≤ length errors → length (errorBytes (recordAt errors i)) ≡ 24
-unfolding recordAt recordHere
-length-record errors i h =
-    let n : 24 * i + 16 ≤ length errors = omega arith in
-    let m = length-bytes 16 errors (24 * i) n in
-    length-error (recordAt errors i) ∙ omega (arith, m)
+pub length-record : (s : List ℕ) (at : ℕ) → at + 24 ≤ length s → length (errorBytes (recordHere s at)) ≡ 24
+unfolding recordHere
+length-record s at h =
+    let m = length-bytes 16 s at (omega arith) in
+    length-error (recordHere s at) ∙ omega (arith, m)
 
-pub length-errors : (n i : ℕ) (errors : List ℕ) → 24 * (i + n) ≤ length errors → length (errorsBytes (recordsFrom n i errors)) ≡ 24 * n
-unfolding errorsBytes recordsFrom
-length-errors zero i errors h = refl
-length-errors (suc n) i errors h =
-    let a = length-record errors i (omega arith) in
-    let b = length-errors n (i + 1) errors (omega arith) in
+pub length-errors : (n : ℕ) (s : List ℕ) (at : ℕ) → at + 24 * n ≤ length s → length (errorsBytes (recordsAt n s at)) ≡ 24 * n
+unfolding errorsBytes recordsAt
+length-errors zero s at h = refl
+length-errors (suc n) s at h =
+    let a = length-record s at (omega arith) in
+    let b = length-errors n s (at + 24) (omega arith) in
     simp length-append (omega (arith, a, b))
 
-pub length-reports : (hs : List ReportHead) (k : ℕ) (errors : List ℕ) → stateidsWhole hs ≡ true → 24 * (k + counts hs) ≤ length errors
-    → length (reportsBytes hs (recordsFrom (counts hs) k errors)) ≡ 36 * length hs + 24 * counts hs
+pub length-reports : (hs : List ReportHead) (s : List ℕ) (at : ℕ) → stateidsWhole hs ≡ true → at + 24 * counts hs ≤ length s
+    → length (reportsBytes hs (recordsAt (counts hs) s at)) ≡ 36 * length hs + 24 * counts hs
 unfolding reportsBytes counts stateidsWhole
-length-reports [] k errors e h = refl
-length-reports (h ∷ hs) k errors e n =
+length-reports [] s at e h = refl
+length-reports (h ∷ hs) s at e n =
     let w = both (eqb (length (h .stateid)) 16) (stateidsWhole hs) e in
     let a = length-head h (eqb-true (length (h .stateid)) 16 (w .0)) in
-    let b = length-errors (h .errors) k errors (omega arith) in
-    let c = length-reports hs (k + h .errors) errors (w .1) (omega arith) in
-    rw (take-records (h .errors) (counts hs) k errors, drop-records (h .errors) (counts hs) k errors) (simp length-append (omega (arith, a, b, c)))
+    let b = length-errors (h .errors) s at (omega arith) in
+    let c = length-reports hs s (at + 24 * h .errors) (w .1) (omega arith) in
+    rw (take-records (h .errors) (counts hs) s at, drop-records (h .errors) (counts hs) s at) (simp length-append (omega (arith, a, b, c)))
 
-pub length-body : (hs : List ReportHead) (errors : List ℕ) → stateidsWhole hs ≡ true → 24 * counts hs ≤ length errors
-    → length (bodyBytes hs (recordsFrom (counts hs) 0 errors)) ≡ 8 + 36 * length hs + 24 * counts hs
+pub length-body : (hs : List ReportHead) (s z : List ℕ) → stateidsWhole hs ≡ true → 24 * counts hs ≤ length s
+    → length (bodyBytes hs (recordsAt (counts hs) s 0) z) ≡ 4 + 36 * length hs + 24 * counts hs + length z
 unfolding bodyBytes
-length-body hs errors e h =
-    let a = length-reports hs 0 errors e (omega arith) in
-    simp (length-append, length-be 4 (length hs), length-be 4 0) (omega (arith, a))
+length-body hs s z e h =
+    let a = length-reports hs s 0 e (omega arith) in
+    simp (length-append, length-be 4 (length hs)) (omega (arith, a))
+
+-- ---- records that stand in bytes are written as they stand
+
+record-back : (s : List ℕ) (at : ℕ) → AllBytes s → at + 24 ≤ length s → Stands (errorBytes (recordHere s at)) s at
+unfolding errorBytes recordHere
+record-back s at b r =
+    let d = bytesFrom 16 s at in
+    let st = beBytes 4 (beAt 4 s (at + 16)) in
+    let op = beBytes 4 (beAt 4 s (at + 20)) in
+    let d16 : length d ≡ 16 = length-bytes 16 s at (omega (arith, r)) in
+    let st4 = length-be 4 (beAt 4 s (at + 16)) in
+    stands-join d (st ++ op) s at (at + 16) (omega (arith, d16)) (bytes-are 16 s at (omega (arith, r)))
+    (stands-join st op s (at + 16) (at + 20) (omega (arith, st4)) (be-at-stands 4 s (at + 16) b (omega (arith, r))) (be-at-stands 4 s (at + 20) b (omega (arith, r))))
+
+pub records-back : (n : ℕ) (s : List ℕ) (at : ℕ) → AllBytes s → at + 24 * n ≤ length s → Stands (errorsBytes (recordsAt n s at)) s at
+unfolding errorsBytes recordsAt
+records-back zero s at b h = record { room = omega (arith, h); same = refl }
+records-back (suc n) s at b h =
+    let r : at + 24 ≤ length s = omega arith in
+    let m = length-record s at r in
+    stands-join (errorBytes (recordHere s at)) (errorsBytes (recordsAt n s (at + 24))) s at (at + 24) (omega (arith, m)) (record-back s at b r) (records-back n s (at + 24) b (omega arith))
+
+pub errors-are-bytes : (n : ℕ) (s : List ℕ) (at : ℕ) → AllBytes s → at + 24 * n ≤ length s → errorsBytes (recordsAt n s at) ≡ bytesFrom (24 * n) s at
+errors-are-bytes n s at b h = sym (records-back n s at b h .same) ∙ ap (λ (k : ℕ). bytesFrom k s at) (length-errors n s at h)
 
 -- ---- what is allowed stands in the slice whole
 
@@ -78,72 +102,66 @@ unfolding errorFits
 fits-operation status zero h = absurd (false≢true (both (not (eqb status 0)) false h .1))
 fits-operation status (suc n) h = omega arith
 
-pub fit-inside : (n i : ℕ) (errors : List ℕ) → allFit (recordsFrom n i errors) ≡ true → 24 * i ≤ length errors → 24 * (i + n) ≤ length errors
-unfolding allFit recordsFrom recordAt recordHere
-fit-inside zero i errors h k = omega arith
-fit-inside (suc n) i errors h k =
-    let operation = beAt 4 errors (24 * i + 20) in
-    let a = both (errorFits (beAt 4 errors (24 * i + 16)) operation) (allFit (recordsFrom n (i + 1) errors)) h in
-    let b = be-there 4 errors (24 * i + 20) (fits-operation (beAt 4 errors (24 * i + 16)) operation (a .0)) in
-    let c = fit-inside n (i + 1) errors (a .1) (omega (arith, b)) in
+pub fit-inside : (n : ℕ) (s : List ℕ) (at : ℕ) → allFit (recordsAt n s at) ≡ true → at ≤ length s → at + 24 * n ≤ length s
+unfolding allFit recordsAt recordHere
+fit-inside zero s at h k = omega arith
+fit-inside (suc n) s at h k =
+    let operation = beAt 4 s (at + 20) in
+    let a = both (errorFits (beAt 4 s (at + 16)) operation) (allFit (recordsAt n s (at + 24))) h in
+    let b = be-there 4 s (at + 20) (fits-operation (beAt 4 s (at + 16)) operation (a .0)) in
+    let c = fit-inside n s (at + 24) (a .1) (omega (arith, b)) in
     omega (arith, c)
 
-judged-cons : (h : ReportHead) (hs : List ReportHead) (k : ℕ) (errors : List ℕ)
-    → judged (h ∷ hs) (recordsFrom (counts (h ∷ hs)) k errors)
-    ≡ given (judgedOne h (recordsFrom (h .errors) k errors)) (λ u. judged hs (recordsFrom (counts hs) (k + h .errors) errors))
+judged-cons : (h : ReportHead) (hs : List ReportHead) (s : List ℕ) (at : ℕ)
+    → judged (h ∷ hs) (recordsAt (counts (h ∷ hs)) s at)
+    ≡ given (judgedOne h (recordsAt (h .errors) s at)) (λ u. judged hs (recordsAt (counts hs) s (at + 24 * h .errors)))
 unfolding judged counts
-judged-cons h hs k errors = rw (take-records (h .errors) (counts hs) k errors, drop-records (h .errors) (counts hs) k errors)
+judged-cons h hs s at = rw (take-records (h .errors) (counts hs) s at, drop-records (h .errors) (counts hs) s at)
 
-pub judged-inside : (hs : List ReportHead) (k : ℕ) (errors : List ℕ) → judged hs (recordsFrom (counts hs) k errors) ≡ accepted tt
-    → 24 * k ≤ length errors → (24 * (k + counts hs) ≤ length errors) × (counts hs ≤ 16 * length hs)
+pub judged-inside : (hs : List ReportHead) (s : List ℕ) (at : ℕ) → judged hs (recordsAt (counts hs) s at) ≡ accepted tt
+    → at ≤ length s → (at + 24 * counts hs ≤ length s) × (counts hs ≤ 16 * length hs)
 unfolding counts
-judged-inside [] k errors e h = (omega arith, omega arith)
-judged-inside (h ∷ hs) k errors e n =
-    let a = gave _ _ _ (sym (judged-cons h hs k errors) ∙ e) in
+judged-inside [] s at e h = (omega arith, omega arith)
+judged-inside (h ∷ hs) s at e n =
+    let a = gave _ _ _ (sym (judged-cons h hs s at) ∙ e) in
     let b = allowed h _ (a .first) in
-    let c = fit-inside (h .errors) k errors (b .fit) n in
-    let d = judged-inside hs (k + h .errors) errors (a .rest) c in
+    let c = fit-inside (h .errors) s at (b .fit) n in
+    let d = judged-inside hs s (at + 24 * h .errors) (a .rest) c in
     (omega (arith, d .0), omega (arith, d .1, b .few))
 
 -- the sizes of a body that is allowed
-pub record Sizes (count : ℕ) (heads : List ReportHead) (n : ℕ) (errors : List ℕ) : Type 0 where
+pub record Sizes (count : ℕ) (heads : List ReportHead) (n : ℕ) (errors z : List ℕ) : Type 0 where
   pub reports : length (take count heads) ≡ count
   pub few : n ≤ 128
   pub inside : 24 * counts (take count heads) ≤ length errors
-  pub body : length (bodyBytes (take count heads) (recordsFrom (counts (take count heads)) 0 errors)) ≡ 8 + 36 * count + 24 * n
-  pub middle : 4 + length (reportsBytes (take count heads) (recordsFrom (counts (take count heads)) 0 errors)) + 4 ≡ 8 + 36 * count + 24 * n
+  pub before : 4 + length (reportsBytes (take count heads) (recordsAt (counts (take count heads)) errors 0)) ≡ 4 + 36 * count + 24 * n
+  pub body : length (bodyBytes (take count heads) (recordsAt (counts (take count heads)) errors 0) z) ≡ 4 + 36 * count + 24 * n + length z
 
-pub sizes : (count : ℕ) (heads : List ReportHead) (n : ℕ) (errors : List ℕ) → count ≤ 8 → length heads ≡ 8 → n ≡ counts (take count heads)
-    → stateidsWhole (take count heads) ≡ true → judged (take count heads) (recordsFrom (counts (take count heads)) 0 errors) ≡ accepted tt
-    → Sizes count heads n errors
-sizes count heads n errors h l q s j =
+pub sizes : (count : ℕ) (heads : List ReportHead) (n : ℕ) (errors z : List ℕ) → count ≤ 8 → length heads ≡ 8 → n ≡ counts (take count heads)
+    → stateidsWhole (take count heads) ≡ true → judged (take count heads) (recordsAt (counts (take count heads)) errors 0) ≡ accepted tt
+    → Sizes count heads n errors z
+sizes count heads n errors z h l q s j =
     let r : length (take count heads) ≡ count = length-take-le count heads (omega arith) in
-    let i = judged-inside (take count heads) 0 errors j (omega arith) in
+    let i = judged-inside (take count heads) errors 0 j (omega arith) in
     let k : 24 * counts (take count heads) ≤ length errors = omega (arith, i .0) in
-    let b = length-body (take count heads) errors s k in
-    let m = length-reports (take count heads) 0 errors s (omega (arith, k)) in
+    let b = length-body (take count heads) errors z s k in
+    let m = length-reports (take count heads) errors 0 s (omega (arith, k)) in
     record {
       reports = r;
       few = omega (arith, i .1, r, q);
       inside = k;
+      before = omega (arith, m, r, q);
       body = omega (arith, b, r, q);
-      middle = omega (arith, m, r, q);
     }
 
--- ---- what a loop stores
+-- ---- what is stored
 
-pub error-stored : (l : List ℕ) (p n k : ℕ) (errors device : List ℕ) (status operation : ℕ) → 0 < n → 24 * (k + 1) ≤ length errors → p + 24 ≤ length l
-    → device ≡ bytesFrom 16 errors (24 * k) → status ≡ beAt 4 errors (24 * k + 16) → operation ≡ beAt 4 errors (24 * k + 20)
-    → sets l p (errorsBytes (recordsFrom n k errors))
-    ≡ sets (stored l p (errorBytes (record { device = device; status = status; operation = operation }))) (p + 24) (errorsBytes (recordsFrom (n - 1) (k + 1) errors))
-unfolding errorsBytes recordAt recordHere
-error-stored l p n k errors device status operation h m r a b c =
-    let x = recordAt errors k in
-    let w = length-record errors k m in
-    let rest = errorsBytes (recordsFrom (n - 1) (k + 1) errors) in
-    let f : p + length (errorBytes x) ≤ length l = omega (arith, w) in
-    rw (a, b, c, records-next n k errors h, fits-stored l p (errorBytes x) f)
-    (sets-append l p (errorBytes x) rest ∙ ap (λ (i : ℕ). sets (sets l p (errorBytes x)) i rest) (omega (arith, w)))
+pub errors-stored : (l : List ℕ) (p n : ℕ) (s : List ℕ) (from : ℕ) (bs : List ℕ) → AllBytes s → p + 24 * n ≤ length l → from + 24 * n ≤ length s
+    → bs ≡ bytesFrom (24 * n) s from → stored l p bs ≡ sets l p (errorsBytes (recordsAt n s from))
+errors-stored l p n s from bs b r h e =
+    let es = errorsBytes (recordsAt n s from) in
+    let m = length-errors n s from h in
+    rw (e, ← errors-are-bytes n s from b h) (fits-stored l p es (omega (arith, m)))
 
 pub head-stored : (l : List ℕ) (at : ℕ) (h : ReportHead) → length (h .stateid) ≡ 16 → at + 36 ≤ length l
     → stored (stored (stored (stored l at (beBytes 8 (h .offset))) (at + 8) (beBytes 8 (h .length))) (at + 16) (h .stateid)) (at + 32) (beBytes 4 (h .errors))
@@ -178,25 +196,22 @@ report-stored l p m xs ys zs a b =
 
 -- ---- the whole
 
-pub body-stored : (l : List ℕ) (hs : List ReportHead) (es : List ErrorRecord) (count size : ℕ) → length hs ≡ count → size ≡ length (bodyBytes hs es)
-    → 4 + length (reportsBytes hs es) + 4 ≡ size → size ≤ length l
-    → stored (sets (stored l 0 (beBytes 4 count)) 4 (reportsBytes hs es)) (size - 4) (beBytes 4 0)
-    ≡ bodyBytes hs es ++ drop (length (bodyBytes hs es)) l
+pub body-stored : (l : List ℕ) (hs : List ReportHead) (es : List ErrorRecord) (z : List ℕ) (count p : ℕ) → length hs ≡ count
+    → 4 + length (reportsBytes hs es) ≡ p → p + length z ≤ length l
+    → stored (sets (stored l 0 (beBytes 4 count)) 4 (reportsBytes hs es)) p z ≡ bodyBytes hs es z ++ drop (length (bodyBytes hs es z)) l
 unfolding bodyBytes
-body-stored l hs es count size e s r n =
+body-stored l hs es z count p e r n =
     let c = beBytes 4 (length hs) in
     let b = reportsBytes hs es in
-    let z = beBytes 4 0 in
     let c4 = length-be 4 (length hs) in
-    let z4 = length-be 4 0 in
     let f : 0 + length c ≤ length l = omega (arith, c4) in
     let m : length (sets (sets l 0 c) 4 b) ≡ length l = length-sets (sets l 0 c) 4 b ∙ length-sets l 0 c in
-    let g : size - 4 + length z ≤ length (sets (sets l 0 c) 4 b) = omega (arith, m, z4) in
-    let p : size - 4 ≡ 4 + length b = omega arith in
-    let k : 0 + length (c ++ (b ++ z)) ≤ length l = omega arith in
+    let g : p + length z ≤ length (sets (sets l 0 c) 4 b) = omega (arith, m) in
+    let bz = length-append b z in
+    let k : 0 + length (c ++ (b ++ z)) ≤ length l = rw (length-append c (b ++ z)) (omega (arith, c4, bz)) in
     let q : sets (sets (sets l 0 c) 4 b) (4 + length b) z ≡ sets l 0 (c ++ (b ++ z)) =
     sym (sets-append l 0 c (b ++ z) ∙ ap (λ (i : ℕ). sets (sets l 0 c) i (b ++ z)) (omega (arith, c4)) ∙ sets-append (sets l 0 c) 4 b z) in
-    rw (← e, fits-stored l 0 c f, fits-stored (sets (sets l 0 c) 4 b) (size - 4) z g, p, q) (sets-eq (c ++ (b ++ z)) l 0 k ∙ ap (λ (i : ℕ). c ++ (b ++ z) ++ drop i l) (zero-add (length (c ++ (b ++ z)))))
+    rw (← e, fits-stored l 0 c f, fits-stored (sets (sets l 0 c) 4 b) p z g, ← r, q) (sets-eq (c ++ (b ++ z)) l 0 k ∙ ap (λ (i : ℕ). c ++ (b ++ z) ++ drop i l) (zero-add (length (c ++ (b ++ z)))))
 
 -- ---- the whole answer, by what was found
 
@@ -209,28 +224,28 @@ pub written-accepted : (l m : List ℕ) (x : Answer (List ℕ)) (bs : List ℕ) 
 unfolding lengthOf outputAfter given
 written-accepted l m x bs size e s k = rw e (ap accepted s, k)
 
-pub many-refused : (count : ℕ) (heads : List ReportHead) (es : List ErrorRecord) (room : ℕ) → 8 < count → reportsWritten count heads es room ≡ refused 8
-unfolding reportsWritten pick
-many-refused count heads es room h = rw (lt-leb _ _ h)
+pub many-refused : (count : ℕ) (heads : List ReportHead) (es : List ErrorRecord) (z : List ℕ) (room : ℕ) → 8 < count → bodyWritten count heads es z room ≡ refused 8
+unfolding bodyWritten pick
+many-refused count heads es z room h = rw (lt-leb _ _ h)
 
-pub list-refused : (count : ℕ) (heads : List ReportHead) (n : ℕ) (errors : List ℕ) (room : ℕ) → count ≤ 8
-    → (counts (take count heads) ≡ n → ⊥) → reportsWritten count heads (recordsFrom n 0 errors) room ≡ refused 8
-unfolding reportsWritten pick
-list-refused count heads n errors room h k = rw (le-leb _ _ h, length-records n 0 errors, ne-eqb _ _ k)
+pub list-refused : (count : ℕ) (heads : List ReportHead) (n : ℕ) (errors z : List ℕ) (room : ℕ) → count ≤ 8
+    → (counts (take count heads) ≡ n → ⊥) → bodyWritten count heads (recordsAt n errors 0) z room ≡ refused 8
+unfolding bodyWritten pick
+list-refused count heads n errors z room h k = rw (le-leb _ _ h, length-records n errors 0, ne-eqb _ _ k)
 
-pub reports-refused : (count : ℕ) (heads : List ReportHead) (n : ℕ) (errors : List ℕ) (room k : ℕ) → count ≤ 8 → n ≡ counts (take count heads)
-    → judged (take count heads) (recordsFrom (counts (take count heads)) 0 errors) ≡ refused k
-    → reportsWritten count heads (recordsFrom n 0 errors) room ≡ refused k
-unfolding reportsWritten pick given
-reports-refused count heads n errors room k h q j =
-    rw (le-leb _ _ h, length-records n 0 errors, q, eq-eqb (counts (take count heads)) (counts (take count heads)) refl, j)
+pub reports-refused : (count : ℕ) (heads : List ReportHead) (n : ℕ) (errors z : List ℕ) (room k : ℕ) → count ≤ 8 → n ≡ counts (take count heads)
+    → judged (take count heads) (recordsAt (counts (take count heads)) errors 0) ≡ refused k
+    → bodyWritten count heads (recordsAt n errors 0) z room ≡ refused k
+unfolding bodyWritten pick given
+reports-refused count heads n errors z room k h q j =
+    rw (le-leb _ _ h, length-records n errors 0, q, eq-eqb (counts (take count heads)) (counts (take count heads)) refl, j)
 
-pub reports-allowed : (count : ℕ) (heads : List ReportHead) (n : ℕ) (errors : List ℕ) (room : ℕ) → count ≤ 8 → n ≡ counts (take count heads)
-    → judged (take count heads) (recordsFrom (counts (take count heads)) 0 errors) ≡ accepted tt
-    → reportsWritten count heads (recordsFrom n 0 errors) room ≡ fitted (bodyBytes (take count heads) (recordsFrom (counts (take count heads)) 0 errors)) room
-unfolding reportsWritten pick given
-reports-allowed count heads n errors room h q j =
-    rw (le-leb _ _ h, length-records n 0 errors, q, eq-eqb (counts (take count heads)) (counts (take count heads)) refl, j)
+pub reports-allowed : (count : ℕ) (heads : List ReportHead) (n : ℕ) (errors z : List ℕ) (room : ℕ) → count ≤ 8 → n ≡ counts (take count heads)
+    → judged (take count heads) (recordsAt (counts (take count heads)) errors 0) ≡ accepted tt
+    → bodyWritten count heads (recordsAt n errors 0) z room ≡ fitted (bodyBytes (take count heads) (recordsAt (counts (take count heads)) errors 0) z) room
+unfolding bodyWritten pick given
+reports-allowed count heads n errors z room h q j =
+    rw (le-leb _ _ h, length-records n errors 0, q, eq-eqb (counts (take count heads)) (counts (take count heads)) refl, j)
 
 pub too-short : (bs : List ℕ) (room : ℕ) → room < length bs → fitted bs room ≡ refused 26
 unfolding fitted pick

@@ -18,8 +18,8 @@ use Rattle.xdr.proofs.EndLaws.{none-end, others-end}
 use Rattle.report.specs.Reports.{errorAt, errorFits, headAt, reportAt}
 use Rattle.report.specs.declared.ReportHead.{ReportHead}
 use Rattle.report.proofs.ReportLaws.{report-ends}
-use Rattle.report_write.specs.Places.{HeadFits, placed, RecordFits, recordsAt, recordsIn}
-use Rattle.report_write.specs.Writing.{allFit, counts, ErrorRecord, errorBytes, errorsBytes, headBytes, judged, recordHere, reportsBytes}
+use Rattle.report_write.specs.Places.{HeadFits, placed, RecordFits, recordsIn}
+use Rattle.report_write.specs.Writing.{allFit, counts, ErrorRecord, errorBytes, errorsBytes, headBytes, judged, recordHere, recordsAt, reportsBytes}
 use Rattle.report_write.proofs.RecordLaws.{Allowed, allowed}
 use Rattle.report_write.proofs.Standing.{Stands, stands-parts, num-stands, bytes-stand, be-stands-at}
 use Rattle.report_write.proofs.StoringLaws.{length-error, length-head}
@@ -131,7 +131,7 @@ reports-stand (h ∷ hs) es s at f g j c w =
 
 -- ---- the records that stand there
 
-record-stands : (e : ErrorRecord) (s : List ℕ) (at : ℕ) → RecordFits e → Stands (errorBytes e) s at → recordHere s at ≡ e
+pub record-stands : (e : ErrorRecord) (s : List ℕ) (at : ℕ) → RecordFits e → Stands (errorBytes e) s at → recordHere s at ≡ e
 unfolding errorBytes recordHere
 record-stands e s at f w =
     let a = stands-parts (e .device) (beBytes 4 (e .status) ++ beBytes 4 (e .operation)) s at w in

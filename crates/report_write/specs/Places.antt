@@ -1,21 +1,16 @@
 -- Reports and errors by their places in a body; what the two round trips speak of.
-use Prim.Native.Nat.{ℕ, zero, suc, _+_, _*_, _^_, _<_}
+use Prim.Native.Nat.{ℕ, _+_, _*_, _^_, _<_}
 use mathlib.Core.Path.{_≡_}
 use mathlib.Core.List.{List, [], _∷_, _++_}
 use lib.ListN.{length}
 use Rattle.report.specs.Reports.{Report}
 use Rattle.report.specs.declared.ReportHead.{ReportHead}
-use Rattle.report_write.specs.Writing.{ErrorRecord, recordHere}
+use Rattle.report_write.specs.Writing.{ErrorRecord, recordsAt}
 
 -- reports that are written from a place on: 36 bytes, then the errors of 24 bytes each
 unfoldable pub placed : List ReportHead → ℕ → List Report
 placed [] at = []
 placed (h ∷ hs) at = record { head = h; errors-at = at + 36 } ∷ placed hs (at + 36 + 24 * h .errors)
-
--- the n records from a place on
-unfoldable pub recordsAt : ℕ → List ℕ → ℕ → List ErrorRecord
-recordsAt zero s at = []
-recordsAt (suc n) s at = recordHere s at ∷ recordsAt n s (at + 24)
 
 -- the records of the reports' errors, in order
 unfoldable pub recordsIn : List ℕ → List Report → List ErrorRecord

@@ -1,10 +1,11 @@
 -- Error reports, ff_layoutreturn4 of RFC 8435, 9.3, written: what is judged, in which order, and the bytes of the body.
-use Prim.Native.Nat.{ℕ, zero, suc, _+_, _*_}
+use Prim.Native.Nat.{ℕ, zero, suc, _+_}
 use mathlib.Core.List.{List, [], _∷_, _++_}
 use mathlib.Core.Bool.{Bool, true, _&&_}
 use lib.ListN.{length, take, drop}
 use lib.Dec.{leb, eqb}
 use Rattle.base.specs.Answer.{Answer, accepted, refused, given, pick}
+use Rattle.base.specs.Limits.{errorSize, mostReports}
 use Rattle.base.specs.Ranges.{rangeLast}
 use Rattle.numbers.specs.Numbers.{bytesFrom, beAt, beBytes}
 use Rattle.report.specs.Reports.{errorFits}
@@ -20,14 +21,10 @@ pub record ErrorRecord : Type 0 where
 unfoldable pub recordHere : List ℕ → ℕ → ErrorRecord
 recordHere s at = record { device = bytesFrom 16 s at; status = beAt 4 s (at + 16); operation = beAt 4 s (at + 20) }
 
--- record i of the wire records in a slice
-unfoldable pub recordAt : List ℕ → ℕ → ErrorRecord
-recordAt errors i = recordHere errors (24 * i)
-
--- the n records from record i on
-unfoldable pub recordsFrom : ℕ → ℕ → List ℕ → List ErrorRecord
-recordsFrom zero i errors = []
-recordsFrom (suc n) i errors = recordAt errors i ∷ recordsFrom n (i + 1) errors
+-- the n records from a place on
+unfoldable pub recordsAt : ℕ → List ℕ → ℕ → List ErrorRecord
+recordsAt zero s at = []
+recordsAt (suc n) s at = recordHere s at ∷ recordsAt n s (at + errorSize)
 
 -- ---- what an array of heads has by its type
 
@@ -80,9 +77,9 @@ unfoldable pub reportsBytes : List ReportHead → List ErrorRecord → List ℕ
 reportsBytes [] es = []
 reportsBytes (h ∷ hs) es = headBytes h ++ (errorsBytes (take (h .errors) es) ++ reportsBytes hs (drop (h .errors) es))
 
--- "Report count (0 to 8), reports, then a statistics count that must be 0"
-unfoldable pub bodyBytes : List ReportHead → List ErrorRecord → List ℕ
-bodyBytes hs es = beBytes 4 (length hs) ++ (reportsBytes hs es ++ beBytes 4 0)
+-- "Report count (0 to 8), reports", then the bytes z of what follows them
+unfoldable pub bodyBytes : List ReportHead → List ErrorRecord → List ℕ → List ℕ
+bodyBytes hs es z = beBytes 4 (length hs) ++ (reportsBytes hs es ++ z)
 
 -- ---- the whole
 
@@ -91,13 +88,17 @@ unfoldable pub fitted : List ℕ → ℕ → Answer (List ℕ)
 fitted bs room = pick (leb (length bs) room) (accepted bs) (refused 26)
 
 -- "In writing, too many reports come first (8), then a list of another length (8), then reports in order, then 26."
-unfoldable pub reportsWritten : ℕ → List ReportHead → List ErrorRecord → ℕ → Answer (List ℕ)
-reportsWritten count heads es room =
-    pick (leb count 8)
+unfoldable pub bodyWritten : ℕ → List ReportHead → List ErrorRecord → List ℕ → ℕ → Answer (List ℕ)
+bodyWritten count heads es z room =
+    pick (leb count mostReports)
     (pick (eqb (counts (take count heads)) (length es))
-    (given (judged (take count heads) es) λ u. fitted (bodyBytes (take count heads) es) room)
+    (given (judged (take count heads) es) λ u. fitted (bodyBytes (take count heads) es z) room)
     (refused 8))
     (refused 8)
+
+-- "then a statistics count that must be 0": nothing else follows the reports
+unfoldable pub reportsWritten : ℕ → List ReportHead → List ErrorRecord → ℕ → Answer (List ℕ)
+reportsWritten count heads es room = bodyWritten count heads es (beBytes 4 0) room
 
 -- "Bytes of the output beyond the body stay"; a refusal "changes nothing lent"
 unfoldable pub outputAfter : List ℕ → Answer (List ℕ) → List ℕ

@@ -9,7 +9,7 @@ use base::Refusal;
 use report::ReportHead;
 ghost use mathlib.Core.Path.{_≡_};
 ghost use lib.ListN.{length};
-ghost use Rattle.report_write.specs.Writing.{outputAfter, recordsFrom, reportsWritten};
+ghost use Rattle.report_write.specs.Writing.{bodyWritten, outputAfter, recordsAt, reportsWritten};
 ghost use Rattle.report_write.specs.Answers.{answerOfWritten, lengthOf};
 
 pub enum Written {
@@ -17,16 +17,18 @@ pub enum Written {
     Refused(Refusal),
 }
 
-// `errors` holds the error list as wire records of 24 bytes; `list_length` is how long the list is.
-pub fn write_reports(
+// The body with the bytes of the tail behind the reports.
+fn write_body(
     count: u32,
     heads: [ReportHead; 8],
     list_length: usize,
     errors: &[u8],
+    tail: &[u8],
     out: &mut [u8],
 ) -> Written
-    ensures { λ r. ⌜ (answerOfWritten r ≡ lengthOf (reportsWritten count heads (recordsFrom «list_length» 0 (now (errors .entry))) (length (now (out .entry)))))
-        × (now (out .exit) ≡ outputAfter (now (out .entry)) (reportsWritten count heads (recordsFrom «list_length» 0 (now (errors .entry))) (length (now (out .entry))))) ⌝ }
+    ensures { λ r. ⌜ (answerOfWritten r ≡ lengthOf (bodyWritten count heads (recordsAt «list_length» (now (errors .entry)) 0) (now (tail .entry)) (length (now (out .entry)))))
+        × (now (out .exit) ≡ outputAfter (now (out .entry))
+            (bodyWritten count heads (recordsAt «list_length» (now (errors .entry)) 0) (now (tail .entry)) (length (now (out .entry))))) ⌝ }
 {
     if 8 < count {
         return Written::Refused(Refusal::Fault(Fault::OutsideLimit));
@@ -39,12 +41,28 @@ pub fn write_reports(
     let Judged::Allowed = j else {
         return Written::Refused(Refusal::Fault(why_judged(j)));
     };
-    let size = 8 + 36 * n + 24 * list_length;
+    let before = 4 + base::REPORT_HEAD_SIZE * n + base::ERROR_SIZE * list_length;
+    let size = before + tail.len();
     if out.len() < size {
         return Written::Refused(Refusal::OutputTooShort);
     }
     buffers::put_be4(out, 0, count);
     put_reports(out, heads, n, errors);
-    buffers::put_be4(out, size - 4, 0);
+    buffers::put_bytes(out, before, tail);
     Written::Length(size)
+}
+
+// `errors` holds the error list as wire records of 24 bytes; `list_length` is how long the list is.
+pub fn write_reports(
+    count: u32,
+    heads: [ReportHead; 8],
+    list_length: usize,
+    errors: &[u8],
+    out: &mut [u8],
+) -> Written
+    ensures { λ r. ⌜ (answerOfWritten r ≡ lengthOf (reportsWritten count heads (recordsAt «list_length» (now (errors .entry)) 0) (length (now (out .entry)))))
+        × (now (out .exit) ≡ outputAfter (now (out .entry)) (reportsWritten count heads (recordsAt «list_length» (now (errors .entry)) 0) (length (now (out .entry))))) ⌝ }
+{
+    let no_statistics = [0u8; 4];
+    write_body(count, heads, list_length, errors, &no_statistics, out)
 }

@@ -5,10 +5,10 @@ use report::ReportHead;
 ghost use mathlib.Core.Path.{_≡_};
 ghost use Rattle.base.specs.Answer.{refusalIn};
 ghost use Rattle.base.specs.Refusals.{faultNumber};
-ghost use Prim.Native.Nat.{_+_, _≤_};
+ghost use Prim.Native.Nat.{_+_, _*_, _≤_};
 ghost use lib.ListN.{length, take};
 ghost use mathlib.Core.Bool.{true};
-ghost use Rattle.report_write.specs.Writing.{allFit, counts, judged, judgedOne, recordsFrom, stateidsWhole};
+ghost use Rattle.report_write.specs.Writing.{allFit, counts, judged, judgedOne, recordsAt, stateidsWhole};
 ghost use Rattle.report_write.specs.Answers.{answerOfJudged};
 
 pub enum Judged {
@@ -41,30 +41,29 @@ pub(crate) fn total(heads: [ReportHead; 8], count: usize) -> u64
     sum
 }
 
-// The n records from the first on: each may be written.
-fn errors_fit(errors: &[u8], first: usize, n: usize) -> bool
-    requires { ⌜ first + n ≤ 4096 ⌝ }
-    ensures { λ r. ⌜ r ≡ allFit (recordsFrom n first (now (errors .entry))) ⌝ }
+// The n records from a place on: each may be written.
+fn errors_fit(errors: &[u8], from: usize, n: usize) -> bool
+    requires { ⌜ from + 24 * n ≤ 65536 ⌝ }
+    ensures { λ r. ⌜ r ≡ allFit (recordsAt n (now (errors .entry)) from) ⌝ }
 {
-    let mut k = first;
+    let mut at = from;
     let mut left = n;
     while 0 < left {
-        let at = 24 * k;
         let status = numbers::be4(errors, at + 16);
         let operation = numbers::be4(errors, at + 20);
         if !report::error_fits(status, operation) {
             return false;
         }
-        k += 1;
+        at += base::ERROR_SIZE;
         left -= 1;
     }
     true
 }
 
-// One report whose first error is record k.
-fn judge_one(head: ReportHead, errors: &[u8], k: usize) -> Judged
-    requires { ⌜ k ≤ 1024 ⌝ }
-    ensures { λ r. ⌜ answerOfJudged r ≡ judgedOne head (recordsFrom (head .errors) k (now (errors .entry))) ⌝ }
+// One report whose first error stands at a place of the records.
+fn judge_one(head: ReportHead, errors: &[u8], from: usize) -> Judged
+    requires { ⌜ from ≤ 32768 ⌝ }
+    ensures { λ r. ⌜ answerOfJudged r ≡ judgedOne head (recordsAt (head .errors) (now (errors .entry)) from) ⌝ }
 {
     let last = base::range_last(head.offset, head.length);
     let Last::At(_) = last else {
@@ -77,7 +76,7 @@ fn judge_one(head: ReportHead, errors: &[u8], k: usize) -> Judged
         return Judged::Refused(Fault::OutsideLimit);
     }
     let n = head.errors as usize;
-    if !errors_fit(errors, k, n) {
+    if !errors_fit(errors, from, n) {
         return Judged::Refused(Fault::ErrorInvalid);
     }
     Judged::Allowed
@@ -86,18 +85,18 @@ fn judge_one(head: ReportHead, errors: &[u8], k: usize) -> Judged
 // The reports in order.
 pub(crate) fn judge(heads: [ReportHead; 8], count: usize, errors: &[u8]) -> Judged
     requires { ⌜ count ≤ 8 ⌝ }
-    ensures { λ r. ⌜ answerOfJudged r ≡ judged (take count heads) (recordsFrom (counts (take count heads)) 0 (now (errors .entry))) ⌝ }
+    ensures { λ r. ⌜ answerOfJudged r ≡ judged (take count heads) (recordsAt (counts (take count heads)) (now (errors .entry)) 0) ⌝ }
 {
-    let mut k: usize = 0;
+    let mut from: usize = 0;
     let mut i: usize = 0;
     while i < count {
         let head = heads[i];
         let n = head.errors as usize;
-        let r = judge_one(head, errors, k);
+        let r = judge_one(head, errors, from);
         let Judged::Allowed = r else {
             return r;
         };
-        k += n;
+        from += base::ERROR_SIZE * n;
         i += 1;
     }
     Judged::Allowed

@@ -5,7 +5,7 @@ ghost use Prim.Native.Nat.{_+_, _*_, _≤_};
 ghost use lib.ListN.{length, take};
 ghost use lib.Seq.{sets};
 ghost use Rattle.buffers.specs.Buffers.{stored};
-ghost use Rattle.report_write.specs.Writing.{counts, errorBytes, errorsBytes, headBytes, recordsFrom, reportsBytes};
+ghost use Rattle.report_write.specs.Writing.{counts, errorBytes, errorsBytes, headBytes, recordsAt, reportsBytes};
 
 // One wire record: the device id, which has 16 bytes where it is one, then status and operation. Where it does not fit, the buffer stays as it was.
 pub fn put_error(buf: &mut [u8], at: usize, device: &[u8], status: u32, operation: u32)
@@ -27,24 +27,13 @@ pub fn put_error(buf: &mut [u8], at: usize, device: &[u8], status: u32, operatio
     buffers::put_be4(buf, at + n + 4, operation);
 }
 
-// The n records from the first on.
-fn put_errors(out: &mut [u8], at: usize, errors: &[u8], first: usize, n: usize)
-    requires { ⌜ (at + 24 * n ≤ length (now out)) × (24 * (first + n) ≤ length (now errors)) ⌝ }
-    ensures { λ r. ⌜ now (out .exit) ≡ sets (now (out .entry)) at (errorsBytes (recordsFrom n first (now (errors .entry)))) ⌝ }
+// The n records from a place on. They stand there as they are written.
+fn put_errors(out: &mut [u8], at: usize, errors: &[u8], from: usize, n: usize)
+    requires { ⌜ (at + 24 * n ≤ length (now out)) × (from + 24 * n ≤ length (now errors)) ⌝ }
+    ensures { λ r. ⌜ now (out .exit) ≡ sets (now (out .entry)) at (errorsBytes (recordsAt n (now (errors .entry)) from)) ⌝ }
 {
-    let mut p = at;
-    let mut k = first;
-    let mut left = n;
-    while 0 < left {
-        let from = 24 * k;
-        let to = from + 16;
-        let status = numbers::be4(errors, to);
-        let operation = numbers::be4(errors, from + 20);
-        put_error(out, p, &errors[from..to], status, operation);
-        p += 24;
-        k += 1;
-        left -= 1;
-    }
+    let to = from + base::ERROR_SIZE * n;
+    buffers::put_bytes(out, at, &errors[from..to]);
 }
 
 fn put_head(out: &mut [u8], at: usize, head: ReportHead)
@@ -61,18 +50,18 @@ fn put_head(out: &mut [u8], at: usize, head: ReportHead)
 // The reports in order, from place 4 on.
 pub(crate) fn put_reports(out: &mut [u8], heads: [ReportHead; 8], count: usize, errors: &[u8])
     requires { ⌜ (count ≤ 8) × (4 + 36 * count + 24 * counts (take count heads) ≤ length (now out)) × (24 * counts (take count heads) ≤ length (now errors)) ⌝ }
-    ensures { λ r. ⌜ now (out .exit) ≡ sets (now (out .entry)) 4 (reportsBytes (take count heads) (recordsFrom (counts (take count heads)) 0 (now (errors .entry)))) ⌝ }
+    ensures { λ r. ⌜ now (out .exit) ≡ sets (now (out .entry)) 4 (reportsBytes (take count heads) (recordsAt (counts (take count heads)) (now (errors .entry)) 0)) ⌝ }
 {
     let mut p: usize = 4;
-    let mut k: usize = 0;
+    let mut from: usize = 0;
     let mut i: usize = 0;
     while i < count {
         let head = heads[i];
         let n = head.errors as usize;
         put_head(out, p, head);
-        put_errors(out, p + 36, errors, k, n);
+        put_errors(out, p + 36, errors, from, n);
         p += 36 + 24 * n;
-        k += n;
+        from += base::ERROR_SIZE * n;
         i += 1;
     }
 }

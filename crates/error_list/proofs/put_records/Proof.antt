@@ -42,7 +42,7 @@ use denote.Triple.Clauses.{ensured, lasts}
 use denote.Triple.Table.{entered, cited}
 use denote.Triple.Walked.{says, needs, Stays, stay-none, stay-slice, stay-none-slice, walkOf, AllGo, goes-none, goes-slice, goes-none-slice, Walks, ends-at, walked, walk-meets}
 use denote.Exit.{yes}
-use Rattle.report_write.specs.Writing.{recordsFrom}
+use Rattle.report_write.specs.Writing.{recordsAt}
 use Rattle.error_list.specs.Records.{recordOf}
 use Rattle.error_list.specs.declared.ErrorRecord.{ErrorRecord}
 use Rattle.error_list.proofs.Again.{Reborrowed, reborrows, comes-back}
@@ -137,7 +137,7 @@ module _ {M : Type 1} (𝓤 : URA M) (H : Heap 𝓤) (A : Atoms 𝓤) (W : Given
 
   -- what `put_record` says of the buffer that it leaves
   abbrev Said : St → List ℕ → Type 0
-  Said t ws = recordsFrom (t .i + 1) 0 ws ≡ recordsFrom (t .i) 0 (t .zs) ++ (recordOf (elem ys n es t) ∷ [])
+  Said t ws = recordsAt (t .i + 1) ws 0 ≡ recordsAt (t .i) (t .zs) 0 ++ (recordOf (elem ys n es t) ∷ [])
 
   -- what `put_record`'s triple binds outside: the buffer lent again for the lifetime ν, under the name δ
   abbrev to : ℕ → GName → St → One 𝓤 H A mem run .Ghost

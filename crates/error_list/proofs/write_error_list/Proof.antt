@@ -1,5 +1,6 @@
--- `error_list::write_error_list` meets its contract: a walk of its MIR, by hand. A local array is lent to `put_records` as a `&mut [u8]`, for a lifetime of the call, and is then passed by value.
-use mathlib.Core.Path.{_≡_, refl, sym, ap, subst}
+-- `error_list::write_error_list` meets its contract: a walk of its MIR, by hand. A local array is lent to `put_records` as a `&mut [u8]`, for a lifetime of the call, and then to
+-- `write_reports` as a `&[u8]`, for another.
+use mathlib.Core.Path.{_≡_, refl, sym, ap, subst, _∙_}
 use Prim.Native.Nat.{ℕ, _<_, _≤_, _^_, _*_, min}
 use native.Mathlib.Omega.{arith}
 use mathlib.Core.List.{[], _∷_, List}
@@ -48,14 +49,18 @@ use Rattle.base.specs.Answer.{Answer}
 use Rattle.report.specs.declared.ReportHead.{ReportHead}
 use Rattle.report.proofs.ReportHead as P
 use Rattle.report.proofs.ReportHead.Laws as P′
-use Rattle.report_write.specs.Writing.{outputAfter, recordsFrom, reportsWritten}
+use Rattle.report_write.specs.Writing.{outputAfter, recordsAt, reportsWritten}
 use Rattle.report_write.specs.Answers.{answerOfWritten, lengthOf}
 use Rattle.report_write.specs.declared.body.Written.{Written}
 use Rattle.report_write.proofs.body.Written as N
 use Rattle.report_write.proofs.body.Written.Laws as N′
+use Rattle.report_write.proofs.write_reports as body
+use Rattle.report_write.proofs.write_reports.Symbol as body-def
+use Rattle.report_write.proofs.write_reports.Symbol.{name as #report-write·write-reports}
+use Rattle.report_write.proofs.write_reports.Met as body-thm
 use Rattle.error_list.specs.Records.{recordsOf}
 use Rattle.error_list.specs.declared.ErrorRecord.{ErrorRecord}
-use Rattle.error_list.proofs.Local.{bytes, big-lit, vals as byte-vals, zeros-is, apart, together}
+use Rattle.error_list.proofs.Local.{bytes, big-lit, vals as byte-vals, zeros-is, apart, together, Parts, shared, unshared}
 use Rattle.error_list.proofs.WireRecords.{written-from}
 use Rattle.error_list.proofs.ErrorRecord as T
 use Rattle.error_list.proofs.records_used as used
@@ -66,10 +71,6 @@ use Rattle.error_list.proofs.put_records as put
 use Rattle.error_list.proofs.put_records.Symbol as put-def
 use Rattle.error_list.proofs.put_records.Symbol.{name as #error-list·put-records}
 use Rattle.error_list.proofs.put_records.Met as put-thm
-use Rattle.error_list.proofs.write_wire as wire
-use Rattle.error_list.proofs.write_wire.Symbol as wire-def
-use Rattle.error_list.proofs.write_wire.Symbol.{name as #error-list·write-wire}
-use Rattle.error_list.proofs.write_wire.Met as wire-thm
 use Rattle.error_list.proofs.write_error_list.Key.{name as #error-list·write-error-list}
 use Rattle.error_list.proofs.write_error_list as this
 use Rattle.error_list.proofs.write_error_list.Statement as stated
@@ -111,8 +112,8 @@ module _ {M : Type 1} (𝓤 : URA M) (H : Heap 𝓤) (A : Atoms 𝓤) (run-mem :
   abbrev Put : Contract 𝓤
   Put = tripleOf 𝓤 H A put.signature (put.spec 𝓤 H A run-mem run)
 
-  abbrev Wire : Contract 𝓤
-  Wire = tripleOf 𝓤 H A wire.signature (wire.spec 𝓤 H A run-mem run)
+  abbrev Body : Contract 𝓤
+  Body = tripleOf 𝓤 H A body.signature (body.spec 𝓤 H A run-mem run)
 
   used-said : (m n : ℕ) → ent 𝓤 (ensured 𝓤 H A used.ended (used.clauses 𝓤 H A run-mem run) tt (m, tt) tt n) (fact 𝓤 (n ≡ min m 128))
   used-said m n = exE 𝓤 _ (λ ws. snd∗ 𝓤 (sem 𝓤 H A (lasts used.ended tt (m, tt) ws)) (fact 𝓤 (n ≡ min m 128)))
@@ -153,7 +154,7 @@ module _ {M : Type 1} (𝓤 : URA M) (H : Heap 𝓤) (A : Atoms 𝓤) (W : Given
 
   -- the answer, from the wire records in zs and from the list
   abbrev From : List ℕ → Answer (List ℕ)
-  From zs = reportsWritten c hs (recordsFrom m 0 zs) (length (x′ .now))
+  From zs = reportsWritten c hs (recordsAt m zs 0) (length (x′ .now))
 
   abbrev Asked : Answer (List ℕ)
   Asked = reportsWritten c hs (recordsOf (x .now)) (length (x′ .now))
@@ -183,21 +184,30 @@ module _ {M : Type 1} (𝓤 : URA M) (H : Heap 𝓤) (A : Atoms 𝓤) (W : Given
       nothing ! $ owned ! usize (Is usize) (uint-makes 𝓤 H A W w64) n _ (refl, n-fits) $ fjoin ! $ move ! (2 ∷ 0 ∷ []) $ fjoin ! $ move ! (1 ∷ 0 ∷ []) $ fjoin ! $ done !
 
   abbrev Laid : ℕ → List ℕ → Type 0
-  Laid n zs = recordsFrom n 0 zs ≡ recordsOf (take n (x .now))
+  Laid n zs = recordsAt n zs 0 ≡ recordsOf (take n (x .now))
 
-  -- the call of `write_wire`
-  abbrev to-wire : List ℕ → Wire 𝓤 H A run-mem run .Ghost
-  to-wire zs = (((κ′, tt), (q′, tt), tt, (c, (hs, (m, (zs, (x′, tt))))), (vint w32 c ∷ [], (mach hs, (vint w64 m ∷ [], (byte-vals zs, (s′ ∷ [], tt)))))), tt)
+  -- the call of `write_reports`: the array, at the list zs, lent as a shared slice in the same way
+  abbrev wire : GName → ℕ → List ℕ → RefT (List ℕ)
+  wire δ l zs = record { ptr = (l, 0); name = δ; now = zs }
 
-  goes-wire : (zs : List ℕ) → Is (Array u8 3072) zs (byte-vals zs) → ent 𝓤 (⋆ 𝓤 H A (‵ (flft κ′ q′) ∷ ‵ Output ∷ [])) (Wire 𝓤 H A run-mem run .pre (to-wire zs))
-  goes-wire zs is =
-      qed W (‵ (flft κ′ q′) ∷ ‵ Output ∷ []) ∵ nothing ! $ move ! (2 ∷ 0 ∷ []) $ fjoin ! $
-      owned ! (Array u8 3072) (Is (Array u8 3072)) (array-makes 𝓤 H A W u8 (uint-makes 𝓤 H A W w8) 3072) zs _ is $ fjoin ! $
+  abbrev Wire : ℕ → GName → ℕ → List ℕ → ℕ → Fml
+  Wire ν δ l zs k = ShrSlice (named 0) (ν ∷ []) u8 .own (wire δ l zs) (sliceVal (l, 0) k ∷ [])
+
+  abbrev given-body : GName → ℕ → List ℕ → ℕ × (List ReportHead × (ℕ × (RefT (List ℕ) × (RefT (List ℕ) × Unit {0}))))
+  given-body δ l zs = (c, (hs, (m, (wire δ l zs, (x′, tt)))))
+
+  abbrev to-body : ℕ → GName → ℕ → List ℕ → Body 𝓤 H A run-mem run .Ghost
+  to-body ν δ l zs = (((ν ∷ [], (κ′, tt)), (fullShare, (q′, tt)), tt, given-body δ l zs, (vint w32 c ∷ [], (mach hs, (vint w64 m ∷ [], (sliceVal (l, 0) 3072 ∷ [], (s′ ∷ [], tt)))))), tt)
+
+  goes-body : (ν : ℕ) (δ : GName) (l : ℕ) (zs : List ℕ)
+      → ent 𝓤 (⋆ 𝓤 H A ((‵ (flft (ν ∷ []) fullShare) ⊛ (‵ (flft κ′ q′) ⊛ ‵ ftrue)) ∷ ‵ (Wire ν δ l zs 3072) ∷ ‵ Output ∷ [])) (Body 𝓤 H A run-mem run .pre (to-body ν δ l zs))
+  goes-body ν δ l zs =
+      qed W ((‵ (flft (ν ∷ []) fullShare) ⊛ (‵ (flft κ′ q′) ⊛ ‵ ftrue)) ∷ ‵ (Wire ν δ l zs 3072) ∷ ‵ Output ∷ []) ∵ nothing ! $ move ! (3 ∷ 0 ∷ []) $ fjoin ! $ move ! (2 ∷ 0 ∷ []) $ fjoin ! $
       owned ! usize (Is usize) (uint-makes 𝓤 H A W w64) m _ (refl, roomy .0) $ fjoin ! $
       owned ! Heads (Is Heads) (array-makes 𝓤 H A W P.the-row (LL.makes P.the-type P′.the-plain 𝓤 H A) 8) hs _ good $ fjoin ! $
       owned ! u32 (Is u32) (uint-makes 𝓤 H A W w32) c _ (refl, c-fits) $ fjoin ! $
-      -- [the parameters; the token]
-      nothing ! $ move ! (2 ∷ 0 ∷ []) $ join ! $ join ! $ frame ! $ done !
+      -- [the parameters; the tokens]
+      move ! (1 ∷ 0 ∷ []) $ join ! $ frame ! $ done !
 
   exits : (r : Written) (u : Val) (zs : List ℕ) → Wrote (x′ .now) Asked r zs → length zs ≡ length (x′ .now)
       → ent 𝓤 (⋆ 𝓤 H A ((‵ (flft κ q) ⊛ ‵ ftrue) ∷ (‵ (flft κ′ q′) ⊛ ‵ ftrue) ∷ ‵ Shr ∷ ‵ (finally u8 (x′ .name) zs) ∷ ‵ (N.the-row .own r (u ∷ [])) ∷ [])) (Post u)
@@ -211,90 +221,98 @@ module _ {M : Type 1} (𝓤 : URA M) (H : Heap 𝓤) (A : Atoms 𝓤) (W : Given
       owned ! u32 (Is u32) (uint-makes 𝓤 H A W w32) c _ (refl, c-fits) $ fjoin ! $ frame ! $ done !
 
   module _ (C : Calls 𝓤 H) (Λ : Loops 𝓤 H) (fm : FmC 𝓤 H (W .laws) C) (known-used : Triple 𝓤 (C #error-list·records-used) (Used 𝓤 H A run-mem run))
-      (known-put : Triple 𝓤 (C #error-list·put-records) (Put 𝓤 H A run-mem run)) (known-wire : Triple 𝓤 (C #error-list·write-wire) (Wire 𝓤 H A run-mem run)) where
+      (known-put : Triple 𝓤 (C #error-list·put-records) (Put 𝓤 H A run-mem run)) (known-body : Triple 𝓤 (C #report-write·write-reports) (Body 𝓤 H A run-mem run)) where
     walk : ent 𝓤 (onEntry 𝓤 H A this.signature (κ, (κ′, tt)) (q, (q′, tt)) a vals) (WpFn 𝓤 H C Λ code.function (vint w32 c ∷ only (mach hs) ∷ s ∷ s′ ∷ []) Post)
     walk =
         qed W ((‵ (flft κ q) ⊛ (‵ (flft κ′ q′) ⊛ ‵ ftrue)) ∷ ‵ (owns (u32 ∷ Heads ∷ ShrSlice (named 0) κ T.the-row ∷ MutSlice (named 1) κ′ u8 ∷ []) a vals) ∷ []) ∵
         enter ! C Λ code.function (vint w32 c ∷ only (mach hs) ∷ s ∷ s′ ∷ []) _ $
-        alloc1 ! (λ l₀. alloc1 ! (λ l₁. alloc1 ! (λ l₂. alloc1 ! (λ l₃. alloc1 ! (λ l₄. alloc1 ! (λ l₅. alloc1 ! (λ l₆. alloc1 ! (λ l₇. alloc1 ! (λ l₈. alloc1 ! (λ l₉. alloc1 ! (λ l₁₀. alloc1 ! (λ l₁₁. alloc1 ! (λ l₁₂. alloc1 ! (λ l₁₃. alloc0 ! $ params1 ! $
-        pass1 ! (init ! 24 refl (tt, record { fits = c-fits })) $ pass1 ! (init ! 22 refl (array-lawful 𝓤 H A W P.the-row (LL.lawful P.the-type P′.the-laws 𝓤 H A W) 8 .typed hs _ good .0)) $
-        pass1 ! (init ! 20 refl (tt, (tt, (record { fits = roomy .0 }, tt)))) $ pass1 ! (init ! 18 refl (tt, (tt, (record { fits = roomy′ .0 }, tt)))) $ pass0 ! $
-        -- [_13; …; _12; …; _11; …; _10 at 6; …; _9 at 8; …; _8 at 10; …; _7 at 12; …; _6 at 14; …; _5 at 16; …; _4 at 18; …; _3 at 20; …; _2 at 22; …; _1 at 24; …; _0 at 26; …; the tokens at 28; what the parameters own]
-        assigns ! (of-opd ! (load ! (from ! (fld ! refl (stop !))) (look-in ! 20 (sub ! 1 refl (whole !))))) (from ! (stop !)) (init ! 12 refl (tt, record { fits = roomy .0 })) $
-        -- [what is asked; _13 at 1; …]
+        alloc1 ! (λ l₀. alloc1 ! (λ l₁. alloc1 ! (λ l₂. alloc1 ! (λ l₃. alloc1 ! (λ l₄. alloc1 ! (λ l₅. alloc1 ! (λ l₆. alloc1 ! (λ l₇. alloc1 ! (λ l₈. alloc1 ! (λ l₉. alloc1 ! (λ l₁₀. alloc1 ! (λ l₁₁. alloc1 ! (λ l₁₂. alloc1 ! (λ l₁₃. alloc1 ! (λ l₁₄. alloc0 ! $ params1 ! $
+        pass1 ! (init ! 26 refl (tt, record { fits = c-fits })) $ pass1 ! (init ! 24 refl (array-lawful 𝓤 H A W P.the-row (LL.lawful P.the-type P′.the-laws 𝓤 H A W) 8 .typed hs _ good .0)) $
+        pass1 ! (init ! 22 refl (tt, (tt, (record { fits = roomy .0 }, tt)))) $ pass1 ! (init ! 20 refl (tt, (tt, (record { fits = roomy′ .0 }, tt)))) $ pass0 ! $
+        -- [_14; …; _13 at 2; …; _12 at 4; …; _11 at 6; …; _10 at 8; …; _9 at 10; …; _8 at 12; …; _7 at 14; …; _6 at 16; …; _5 at 18; …; _4 at 20; …; _3 at 22; …; _2 at 24; …; _1 at 26; …; _0 at 28; …; the tokens at 30; what the parameters own]
+        assigns ! (of-opd ! (load ! (from ! (fld ! refl (stop !))) (look-in ! 22 (sub ! 1 refl (whole !))))) (from ! (stop !)) (init ! 14 refl (tt, record { fits = roomy .0 })) $
+        -- [what is asked; _14 at 1; …]
         nothing ! $ use1 W (raw (Used 𝓤 H A run-mem run .pre to-used)) goes-used $
-        calls-at ! fm (Used 𝓤 H A run-mem run) known-used to-used (and-then ! (load ! (from ! (stop !)) (look ! 13 refl)) (no-more !)) (λ v.
+        calls-at ! fm (Used 𝓤 H A run-mem run) known-used to-used (and-then ! (load ! (from ! (stop !)) (look ! 15 refl)) (no-more !)) (λ v.
         use1 W (later (some (λ (n : ℕ). (‵ ftrue ⊛ ‵ (usize .own n (v ∷ []))) ⊛ raw (ensured 𝓤 H A used.ended (used.clauses 𝓤 H A run-mem run) tt (m, tt) tt n)))) (id⊢ 𝓤 _) $ await ! tt $ pick ! (λ n.
         split ! $ move ! (1 ∷ []) $ use1 W (raw (fact 𝓤 (n ≡ min m 128))) (used-said 𝓤 H A run-mem run m n) $ heard ! (n ≡ min m 128) (λ few. split ! $ drop ! $
         peeks ! usize (Is usize) (shows 𝓤 H A usize) n (v ∷ []) (λ is. drop ! $
-        -- [_13; …]
-        land ! (from ! (stop !)) (init ! 16 refl (uint-lawful 𝓤 H A W w64 .typed n _ is .0)) $ rewrite ! 16 (λ (u : Val). ‵ (fat fullShare (tyInt w64) l₅ 0 u)) (ap only (is .0)) refl $
-        assigns ! (rep ! 3072 (lit ! tt)) (from ! (stop !)) (init ! 14 refl (array-lawful 𝓤 H A W u8 (uint-lawful 𝓤 H A W w8) 3072 .typed zeros _ (zeros-is 3072) .0)) $
-        assigns ! (addr ! (from ! (stop !))) (from ! (stop !)) (init ! 8 refl (tt, tt)) $
-        assigns ! (agg ! (and-then ! (load ! (from ! (stop !)) (look ! 8 refl)) (and-then ! (big-lit ! (record { fits = lit< tt })) (no-more !)))) (from ! (stop !)) (init ! 6 refl (tt, (tt, (record { fits = lit< tt }, tt)))) $
+        -- [_14; …]
+        land ! (from ! (stop !)) (init ! 18 refl (uint-lawful 𝓤 H A W w64 .typed n _ is .0)) $ rewrite ! 18 (λ (u : Val). ‵ (fat fullShare (tyInt w64) l₅ 0 u)) (ap only (is .0)) refl $
+        assigns ! (rep ! 3072 (lit ! tt)) (from ! (stop !)) (init ! 16 refl (array-lawful 𝓤 H A W u8 (uint-lawful 𝓤 H A W w8) 3072 .typed zeros _ (zeros-is 3072) .0)) $
+        assigns ! (addr ! (from ! (stop !))) (from ! (stop !)) (init ! 10 refl (tt, tt)) $
+        assigns ! (agg ! (and-then ! (load ! (from ! (stop !)) (look ! 10 refl)) (and-then ! (big-lit ! (record { fits = lit< tt })) (no-more !)))) (from ! (stop !)) (init ! 8 refl (tt, (tt, (record { fits = lit< tt }, tt)))) $
         -- the array is lent as a slice, for a lifetime ν of the call
-        move ! (14 ∷ []) $ use1 W (‵ (cells (mem u8) zeros l₆ 0)) (apart 𝓤 H A W 3072 l₆ zeros (arrayVal (replicate 3072 (vint w8 0))) (zeros-is 3072)) $ lft-new ! tt (λ ν. move ! (1 ∷ []) $
+        move ! (16 ∷ []) $ use1 W (‵ (cells (mem u8) zeros l₆ 0)) (apart 𝓤 H A W 3072 l₆ zeros (arrayVal (replicate 3072 (vint w8 0))) (zeros-is 3072)) $ lft-new ! tt (λ ν. move ! (1 ∷ []) $
         use1 W (later (some (λ (δ : GName). ‵ (Buf ν δ l₆ (length zeros)) ⊛ ‵ (flent (ν ∷ []) (Held u8 (length zeros) l₆ 0 δ))))) (lends-slice 𝓤 H A W u8 (named 0) (ν ∷ []) zeros l₆ 0 roomy-zeros) $ await ! tt $ pick ! (λ δ. split ! $
         rewrite ! 0 (λ (k : ℕ). ‵ (Buf ν δ l₆ k)) zeros-long refl $
-        -- [the slice; the lender's part; ν's token; _13 at 3; …; the tokens at 30; what the parameters own]: the list is had twice
-        move ! (31 ∷ []) $ fsplit ! $ drop ! $ fsplit ! $ drop ! $ fsplit ! $ move ! (1 ∷ []) $ fsplit ! $ move ! (2 ∷ []) $
+        -- [the slice; the lender's part; ν's token; _14 at 3; …; the tokens at 32; what the parameters own]: the list is had twice
+        move ! (33 ∷ []) $ fsplit ! $ drop ! $ fsplit ! $ drop ! $ fsplit ! $ move ! (1 ∷ []) $ fsplit ! $ move ! (2 ∷ []) $
         use1 W (‵ Shr ⊛ ‵ Shr) (shr-slice-copy 𝓤 H A W (named 0) κ T.the-row .twice x (s ∷ [])) $ split ! $
-        -- [the list; the list; the output; true; the slice; the lender's part; ν's token; _13 at 7; …; the tokens at 34]
-        move ! (34 ∷ []) $ split ! $ move ! (0 ∷ 5 ∷ []) $ join ! $
-        -- [the list's token; the output's token; the list; the list; the output; the slice at 5; the lender's part; ν's token at 7; _13; …]
+        -- [the list; the list; the output; true; the slice; the lender's part; ν's token; _14 at 7; …; the tokens at 36]
+        move ! (36 ∷ []) $ split ! $ move ! (0 ∷ 5 ∷ []) $ join ! $
+        -- [the list's token; the output's token; the list; the list; the output; the slice at 5; the lender's part; ν's token at 7; _14; …]
         move ! (7 ∷ 0 ∷ []) $ join ! $ move ! (0 ∷ 5 ∷ 2 ∷ []) $ use3 W (raw (Put 𝓤 H A run-mem run .pre (to-put ν δ l₆ n))) (goes-put ν δ l₆ n few (is .1)) $
-        -- [what is asked; the output's token; the list; the output; the lender's part; _13 at 5; …; _10 at 11; …; _6's end at 19; _5 at 20; …; _3 at 24; …]
-        calls-at ! fm (Put 𝓤 H A run-mem run) known-put (to-put ν δ l₆ n) (and-then ! (load ! (from ! (stop !)) (look ! 11 refl)) (and-then ! (load ! (from ! (stop !)) (look ! 24 refl)) (and-then ! (load ! (from ! (stop !)) (look ! 20 refl)) (no-more !)))) (λ w.
+        -- [what is asked; the output's token; the list; the output; the lender's part; _14 at 5; …; _10 at 13; …; _6's end at 21; _5 at 22; …; _3 at 26; …]
+        calls-at ! fm (Put 𝓤 H A run-mem run) known-put (to-put ν δ l₆ n) (and-then ! (load ! (from ! (stop !)) (look ! 13 refl)) (and-then ! (load ! (from ! (stop !)) (look ! 26 refl)) (and-then ! (load ! (from ! (stop !)) (look ! 22 refl)) (no-more !)))) (λ w.
         use1 W (later (some (λ (u : Unit {0}). ((‵ (flft (ν ∷ []) fullShare) ⊛ (‵ (flft κ q) ⊛ ‵ ftrue)) ⊛ ‵ (Nothing .own u (w ∷ []))) ⊛ raw (ensured 𝓤 H A put.ended (put.clauses 𝓤 H A run-mem run) (ν ∷ [], (κ, tt)) (buf δ l₆, (x, (n, tt))) tt u)))) (id⊢ 𝓤 _) $ await ! tt $ pick ! (λ u.
         split ! $ move ! (1 ∷ []) $ use1 W (some (λ (ws : List ℕ × (Unit {0} × (Unit {0} × Unit {0}))). ‵ (lasts put.ended (ν ∷ [], (κ, tt)) (buf δ l₆, (x, (n, tt))) ws) ⊛ raw (fact 𝓤 (Laid n (ws .0))))) (id⊢ 𝓤 _) $ pick ! (λ ws.
         split ! $ move ! (1 ∷ []) $ heard ! (Laid n (ws .0)) (λ e. fsplit ! $ fsplit ! $ move ! (1 ∷ []) $ feqL ! (λ long.
         move ! (2 ∷ []) $ split ! $ move ! (1 ∷ []) $ peeks ! Nothing (Is Nothing) (shows 𝓤 H A Nothing) u (w ∷ []) (λ is₁.
-        -- [the result; the tokens; the last list; …; the output's token; the list; the output; the lender's part; _13 at 8; …; _8 at 18; …]
-        land ! (from ! (stop !)) (init ! 18 refl (nothing-lawful 𝓤 H A W .typed u _ is₁ .0)) $
-        -- ν is ended, and the array is had again
+        -- [the result; the tokens; the last list; …; the output's token; the list; the output; the lender's part; _14 at 8; …; _8 at 20; …]
+        land ! (from ! (stop !)) (init ! 20 refl (nothing-lawful 𝓤 H A W .typed u _ is₁ .0)) $
+        -- ν is ended, and the array's bytes are had again
         move ! (1 ∷ []) $ split ! $ lft-end ! tt $ move ! (0 ∷ 8 ∷ 3 ∷ []) $
         use3 W (later (‵ (Arr (mem u8) (length zeros) .lies (ws .0) l₆ 0))) (slice-back 𝓤 H A W u8 (ν ∷ []) δ (ws .0) (length zeros) l₆ 0) $ await ! tt $
-        rewrite ! 0 (λ (k : ℕ). ‵ (Arr (mem u8) k .lies (ws .0) l₆ 0)) zeros-long refl $
-        use1 W (given (Is (Array u8 3072) (ws .0) (byte-vals (ws .0))) (‵ (cellAt fullShare (bytes 3072 ∷ []) (byte-vals (ws .0)) l₆ 0))) (together 𝓤 H A W 3072 l₆ (ws .0)) $ learn ! (λ is₂.
-        use1 W (‵ (fat fullShare (bytes 3072) l₆ 0 (only (byte-vals (ws .0))))) (W .laws .raw-at fullShare (bytes 3072) l₆ 0 (only (byte-vals (ws .0)))) $
-        -- [_6; the list's token; the result; …; the output's token at 4; the list; the output; _13 at 7; …; _12 at 9; …; _11 at 11; …; _7 at 19; …; _4 at 24; …; _3 at 26; …]
-        assigns ! (of-opd ! (load ! (from ! (fld ! refl (stop !))) (look-in ! 26 (sub ! 1 refl (whole !))))) (from ! (stop !)) (store ! 19 refl (tt, record { fits = roomy .0 })) $
-        assigns ! (of-opd ! (load ! (from ! (stop !)) (look ! 0 refl))) (from ! (stop !)) (init ! 11 refl (array-lawful 𝓤 H A W u8 (uint-lawful 𝓤 H A W w8) 3072 .typed (ws .0) _ is₂ .0)) $
-        assigns ! (addr ! (from ! (fld ! refl (hop ! (look-in ! 24 (sub ! 0 refl (whole !))) (stop !))))) (from ! (stop !)) (init ! 9 refl (tt, tt)) $
-        assigns ! (agg ! (and-then ! (load ! (from ! (stop !)) (look ! 9 refl)) (and-then ! (load ! (from ! (fld ! refl (stop !))) (look-in ! 24 (sub ! 1 refl (whole !)))) (no-more !)))) (from ! (stop !)) (init ! 7 refl (tt, (tt, (record { fits = roomy′ .0 }, tt)))) $
-        -- [the output's token; true; _6; the list's token; the result; …; the list; the output at 7; _13; …]
-        move ! (4 ∷ []) $ split ! $ move ! (0 ∷ 7 ∷ []) $ use2 W (raw (Wire 𝓤 H A run-mem run .pre (to-wire (ws .0)))) (goes-wire (ws .0) is₂) $
-        -- [what is asked; true; _6; the list's token; the result; …; the list; _13 at 7; …; _11 at 11; …; _7 at 19; …; _2 at 28; …; _1 at 30; …]
-        calls-at ! fm (Wire 𝓤 H A run-mem run) known-wire (to-wire (ws .0)) (and-then ! (load ! (from ! (stop !)) (look ! 30 refl)) (and-then ! (load ! (from ! (stop !)) (look ! 28 refl)) (and-then ! (load ! (from ! (stop !)) (look ! 19 refl)) (and-then ! (load ! (from ! (stop !)) (look ! 11 refl)) (and-then ! (load ! (from ! (stop !)) (look ! 7 refl)) (no-more !)))))) (λ z.
-        use1 W (later (some (λ (r : Written). ((‵ (flft κ′ q′) ⊛ ‵ ftrue) ⊛ ‵ (N.the-row .own r (z ∷ []))) ⊛ raw (ensured 𝓤 H A wire.ended (wire.clauses 𝓤 H A run-mem run) (κ′, tt) (c, (hs, (m, (ws .0, (x′, tt))))) tt r)))) (id⊢ 𝓤 _) $ await ! tt $ pick ! (λ r.
-        split ! $ move ! (1 ∷ []) $ use1 W (some (λ (ts : Unit {0} × (Unit {0} × (Unit {0} × (Unit {0} × (List ℕ × Unit {0}))))). ‵ (lasts wire.ended (κ′, tt) (c, (hs, (m, (ws .0, (x′, tt))))) ts) ⊛ raw (fact 𝓤 (Wrote (x′ .now) (From (ws .0)) r (ts .1 .1 .1 .1 .0))))) (id⊢ 𝓤 _) $ pick ! (λ ts.
+        -- [the bytes; the list's token; the result; …; the output's token at 4; the list; the output; _14 at 7; …; _13 at 9; …; _12 at 11; …; _11 at 13; …; _7 at 21; …; _4 at 26; …; _3 at 28; …]
+        assigns ! (of-opd ! (load ! (from ! (fld ! refl (stop !))) (look-in ! 28 (sub ! 1 refl (whole !))))) (from ! (stop !)) (store ! 21 refl (tt, record { fits = roomy .0 })) $
+        assigns ! (addr ! (from ! (stop !))) (from ! (stop !)) (init ! 13 refl (tt, tt)) $
+        assigns ! (agg ! (and-then ! (load ! (from ! (stop !)) (look ! 13 refl)) (and-then ! (big-lit ! (record { fits = lit< tt })) (no-more !)))) (from ! (stop !)) (init ! 11 refl (tt, (tt, (record { fits = lit< tt }, tt)))) $
+        assigns ! (addr ! (from ! (fld ! refl (hop ! (look-in ! 26 (sub ! 0 refl (whole !))) (stop !))))) (from ! (stop !)) (init ! 9 refl (tt, tt)) $
+        assigns ! (agg ! (and-then ! (load ! (from ! (stop !)) (look ! 9 refl)) (and-then ! (load ! (from ! (fld ! refl (stop !))) (look-in ! 26 (sub ! 1 refl (whole !)))) (no-more !)))) (from ! (stop !)) (init ! 7 refl (tt, (tt, (record { fits = roomy′ .0 }, tt)))) $
+        -- the array is lent as a shared slice, for a lifetime ν′ of the call
+        fsplit ! $ drop ! $ lft-new ! tt (λ ν′. move ! (1 ∷ []) $
+        use1 W (later (some (λ (δ′ : GName). ‵ (Wire ν′ δ′ l₆ (ws .0) (length (ws .0))) ⊛ ‵ (flent (ν′ ∷ []) (Parts 𝓤 H A W 3072 l₆ (ws .0)))))) (shared 𝓤 H A W 3072 l₆ (named 0) (ν′ ∷ []) (ws .0) (subst (Room u8) (sym long) roomy-zeros)) $ await ! tt $ pick ! (λ δ′. split ! $
+        rewrite ! 0 (λ (k : ℕ). ‵ (Wire ν′ δ′ l₆ (ws .0) k)) (long ∙ zeros-long) refl $
+        -- [the slice; the lender's part; ν′'s token; the list's token; the result; …; the output's token at 6; the list; the output; _14 at 9; …]
+        move ! (2 ∷ 6 ∷ []) $ join ! $ move ! (0 ∷ 1 ∷ 7 ∷ []) $ use3 W (raw (Body 𝓤 H A run-mem run .pre (to-body ν′ δ′ l₆ (ws .0)))) (goes-body ν′ δ′ l₆ (ws .0)) $
+        -- [what is asked; the lender's part; the list's token; the result; …; the list; _14 at 6; …; _12 at 10; …; _7 at 20; …; _2 at 29; …; _1 at 31; …]
+        calls-at ! fm (Body 𝓤 H A run-mem run) known-body (to-body ν′ δ′ l₆ (ws .0)) (and-then ! (load ! (from ! (stop !)) (look ! 31 refl)) (and-then ! (load ! (from ! (stop !)) (look ! 29 refl)) (and-then ! (load ! (from ! (stop !)) (look ! 20 refl)) (and-then ! (load ! (from ! (stop !)) (look ! 10 refl)) (and-then ! (load ! (from ! (stop !)) (look ! 6 refl)) (no-more !)))))) (λ z.
+        use1 W (later (some (λ (r : Written). ((‵ (flft (ν′ ∷ []) fullShare) ⊛ (‵ (flft κ′ q′) ⊛ ‵ ftrue)) ⊛ ‵ (N.the-row .own r (z ∷ []))) ⊛ raw (ensured 𝓤 H A body.ended (body.clauses 𝓤 H A run-mem run) (ν′ ∷ [], (κ′, tt)) (given-body δ′ l₆ (ws .0)) tt r)))) (id⊢ 𝓤 _) $ await ! tt $ pick ! (λ r.
+        split ! $ move ! (1 ∷ []) $ use1 W (some (λ (ts : Unit {0} × (Unit {0} × (Unit {0} × (Unit {0} × (List ℕ × Unit {0}))))). ‵ (lasts body.ended (ν′ ∷ [], (κ′, tt)) (given-body δ′ l₆ (ws .0)) ts) ⊛ raw (fact 𝓤 (Wrote (x′ .now) (From (ws .0)) r (ts .1 .1 .1 .1 .0))))) (id⊢ 𝓤 _) $ pick ! (λ ts.
         split ! $ move ! (1 ∷ []) $ heard ! (Wrote (x′ .now) (From (ws .0)) r (ts .1 .1 .1 .1 .0)) (λ f. fsplit ! $ drop ! $ fsplit ! $ drop ! $ fsplit ! $ drop ! $ fsplit ! $ drop ! $ fsplit ! $ fsplit ! $ move ! (1 ∷ []) $ feqL ! (λ l.
         move ! (2 ∷ []) $ split ! $ move ! (1 ∷ []) $ peeks ! N.the-row (Is N.the-row) (shows 𝓤 H A N.the-row) r (z ∷ []) (λ is₃.
-        -- [the result; the output's token; its last list; …; true; _6 at 5; the list's token; …; …; the list at 9; _13 at 10; …; _7 at 22; …; _6's end at 24; _5 at 25; …; _0 at 35; …]
-        land ! (from ! (stop !)) (init ! 35 refl (EL.lawful N.the-type N′.the-laws 𝓤 H A W tt .typed r _ is₃ .0)) $
-        returns ! (look ! 35 refl) $ forget ! 5 refl $ forget ! 10 refl $ forget ! 12 refl $ forget ! 14 refl $ forget ! 16 refl $ forget ! 18 refl $ forget ! 20 refl $ forget ! 22 refl $
-        forget ! 25 refl $ forget ! 27 refl $ forget ! 29 refl $ forget ! 31 refl $ forget ! 33 refl $ forget ! 35 refl $
-        move ! (35 ∷ 36 ∷ []) $ free1 ! $ move ! (33 ∷ 34 ∷ []) $ free1 ! $ move ! (31 ∷ 32 ∷ []) $ free1 ! $ move ! (29 ∷ 30 ∷ []) $ free1 ! $ move ! (27 ∷ 28 ∷ []) $ free1 ! $ move ! (25 ∷ 26 ∷ []) $ free1 ! $
-        move ! (5 ∷ 24 ∷ []) $ free1 ! $ move ! (21 ∷ 22 ∷ []) $ free1 ! $ move ! (19 ∷ 20 ∷ []) $ free1 ! $ move ! (17 ∷ 18 ∷ []) $ free1 ! $ move ! (15 ∷ 16 ∷ []) $ free1 ! $ move ! (13 ∷ 14 ∷ []) $ free1 ! $ move ! (11 ∷ 12 ∷ []) $ free1 ! $ move ! (9 ∷ 10 ∷ []) $ free1 ! $ free0 ! $
-        -- [the result; the output's token; its last list; …; true; the list's token at 5; …; …; the list at 8]
-        keep ! (5 ∷ 1 ∷ 8 ∷ 2 ∷ 0 ∷ []) $ by ! (exits r z (ts .1 .1 .1 .1 .0) (subst (λ (d : Answer (List ℕ)). Wrote (x′ .now) d r (ts .1 .1 .1 .1 .0)) (written-from c hs (x .now) (ws .0) n (length (x′ .now)) few e) f) l))))))))))))))))))))))))))))))))))
+        -- [the result; the tokens; the last list; …; the lender's part at 4; the list's token; …; …; the list at 8; _14 at 9; …; _0 at 36; …]
+        land ! (from ! (stop !)) (init ! 36 refl (EL.lawful N.the-type N′.the-laws 𝓤 H A W tt .typed r _ is₃ .0)) $
+        -- ν′ is ended, and the array is had again
+        move ! (1 ∷ []) $ split ! $ lft-end ! tt $ move ! (0 ∷ 5 ∷ []) $
+        use2 W (later (‵ (Arr (mem u8) 3072 .lies (ws .0) l₆ 0))) (unshared 𝓤 H A W 3072 l₆ (ν′ ∷ []) (ws .0) (long ∙ zeros-long)) $ await ! tt $
+        use1 W (given (Is (Array u8 3072) (ws .0) (byte-vals (ws .0))) (‵ (cellAt fullShare (bytes 3072 ∷ []) (byte-vals (ws .0)) l₆ 0))) (together 𝓤 H A W 3072 l₆ (ws .0)) $ learn ! (λ is₂.
+        use1 W (‵ (fat fullShare (bytes 3072) l₆ 0 (only (byte-vals (ws .0))))) (W .laws .raw-at fullShare (bytes 3072) l₆ 0 (only (byte-vals (ws .0)))) $
+        -- [_6; the output's token; the result; its last list; …; the list's token at 5; …; …; the list at 8; _14 at 9; …; _7 at 23; …; _6's end at 25; _5 at 26; …; _0 at 36; …]
+        returns ! (look ! 36 refl) $ forget ! 0 refl $ forget ! 9 refl $ forget ! 11 refl $ forget ! 13 refl $ forget ! 15 refl $ forget ! 17 refl $ forget ! 19 refl $ forget ! 21 refl $ forget ! 23 refl $
+        forget ! 26 refl $ forget ! 28 refl $ forget ! 30 refl $ forget ! 32 refl $ forget ! 34 refl $ forget ! 36 refl $
+        move ! (36 ∷ 37 ∷ []) $ free1 ! $ move ! (34 ∷ 35 ∷ []) $ free1 ! $ move ! (32 ∷ 33 ∷ []) $ free1 ! $ move ! (30 ∷ 31 ∷ []) $ free1 ! $ move ! (28 ∷ 29 ∷ []) $ free1 ! $ move ! (26 ∷ 27 ∷ []) $ free1 ! $
+        move ! (0 ∷ 25 ∷ []) $ free1 ! $ move ! (22 ∷ 23 ∷ []) $ free1 ! $ move ! (20 ∷ 21 ∷ []) $ free1 ! $ move ! (18 ∷ 19 ∷ []) $ free1 ! $ move ! (16 ∷ 17 ∷ []) $ free1 ! $ move ! (14 ∷ 15 ∷ []) $ free1 ! $ move ! (12 ∷ 13 ∷ []) $ free1 ! $ move ! (10 ∷ 11 ∷ []) $ free1 ! $ move ! (8 ∷ 9 ∷ []) $ free1 ! $ free0 ! $
+        -- [the output's token; the result; its last list; …; the list's token at 4; …; …; the list at 7]
+        keep ! (4 ∷ 0 ∷ 7 ∷ 2 ∷ 1 ∷ []) $ by ! (exits r z (ts .1 .1 .1 .1 .0) (subst (λ (d : Answer (List ℕ)). Wrote (x′ .now) d r (ts .1 .1 .1 .1 .0)) (written-from c hs (x .now) (ws .0) n (length (x′ .now)) few e) f) l)))))))))))))))))))))))))))))))))))))
 
 module _ {M : Type 1} (𝓤 : URA M) (H : Heap 𝓤) (A : Atoms 𝓤) (W : Given 𝓤 H A) (mem : Memory → SProp 𝓤) (run : Routine → Fun 𝓤) where
-  list-walks : (C : Calls 𝓤 H) (Λ : Loops 𝓤 H) → FmC 𝓤 H (W .laws) C → Triple 𝓤 (C #error-list·records-used) (Used 𝓤 H A mem run) → Triple 𝓤 (C #error-list·put-records) (Put 𝓤 H A mem run) → Triple 𝓤 (C #error-list·write-wire) (Wire 𝓤 H A mem run)
+  list-walks : (C : Calls 𝓤 H) (Λ : Loops 𝓤 H) → FmC 𝓤 H (W .laws) C → Triple 𝓤 (C #error-list·records-used) (Used 𝓤 H A mem run) → Triple 𝓤 (C #error-list·put-records) (Put 𝓤 H A mem run) → Triple 𝓤 (C #report-write·write-reports) (Body 𝓤 H A mem run)
       → Walks 𝓤 H A this.ended stayed (WpFn 𝓤 H C Λ code.function) (this.clauses 𝓤 H A mem run)
-  list-walks C Λ fm known-used known-put known-wire = walked 𝓤 H A this.ended stayed (this.clauses 𝓤 H A mem run) (WpFn 𝓤 H C Λ code.function)
+  list-walks C Λ fm known-used known-put known-body = walked 𝓤 H A this.ended stayed (this.clauses 𝓤 H A mem run) (WpFn 𝓤 H C Λ code.function)
       (λ κs. (uint-vals w32, (mach, (slice-vals, (slice-vals, tt)))))
       (λ κs. (uint-tells w32, (array-tells P.the-row (LL.vals P.the-type P′.the-laws) (LL.tells P.the-type P′.the-laws) 8, (shr-slice-tells (named 0) (κs .0) T.the-row, (mut-slice-tells (named 1) (κs .1 .0) u8, tt)))))
-      (λ κs qs bounds a _ are. via 𝓤 _ (fst∗ 𝓤 _ (emp 𝓤)) (walk 𝓤 H A W mem run (κs .0) (κs .1 .0) (qs .0) (qs .1 .0) (a .0) (a .1 .0) (a .1 .1 .0) (a .1 .1 .1 .0) (are .0 .1) (are .1 .0) (are .1 .1 .0 .0 .1) (are .1 .1 .1 .0 .0 .1) C Λ fm known-used known-put known-wire))
+      (λ κs qs bounds a _ are. via 𝓤 _ (fst∗ 𝓤 _ (emp 𝓤)) (walk 𝓤 H A W mem run (κs .0) (κs .1 .0) (qs .0) (qs .1 .0) (a .0) (a .1 .0) (a .1 .1 .0) (a .1 .1 .1 .0) (are .0 .1) (are .1 .0) (are .1 .1 .0 .0 .1) (are .1 .1 .1 .0 .0 .1) C Λ fm known-used known-put known-body))
 
   goes-all : AllGo 𝓤 H A W 2 (this.signature .params) (this.ended .kept) stayed
   goes-all = (goes-none 𝓤 H A W 2 (λ _. u32) yes (λ κs x f. refl), (goes-none 𝓤 H A W 2 (λ _. Heads) yes (λ κs x f. refl), (goes-none-slice 𝓤 H A W 2 (0 ∷ []) tt (plain (λ _. T.the-row)) yes, (goes-gave-slice 𝓤 H A W 2 1 tt (plain (λ _. u8)), tt))))
 
 list-meets : {M : Type 1} (𝓤 : URA M) (H : Heap 𝓤) (A : Atoms 𝓤) (W : Given 𝓤 H A) (mem : Memory → SProp 𝓤) (run : Routine → Fun 𝓤) (𝓣 : Tables 𝓤 H)
-    → Triple 𝓤 (𝓣 .C #error-list·records-used) (Used 𝓤 H A mem run) → Triple 𝓤 (𝓣 .C #error-list·put-records) (Put 𝓤 H A mem run) → Triple 𝓤 (𝓣 .C #error-list·write-wire) (Wire 𝓤 H A mem run)
+    → Triple 𝓤 (𝓣 .C #error-list·records-used) (Used 𝓤 H A mem run) → Triple 𝓤 (𝓣 .C #error-list·put-records) (Put 𝓤 H A mem run) → Triple 𝓤 (𝓣 .C #report-write·write-reports) (Body 𝓤 H A mem run)
     → Meets 𝓤 H A this.signature (WpFn 𝓤 H (𝓣 .C) (𝓣 .Λ) code.function) (this.spec 𝓤 H A mem run)
-list-meets 𝓤 H A W mem run 𝓣 known-used known-put known-wire = walk-meets 𝓤 H A this.ended stayed W (goes-all 𝓤 H A W mem run) (this.clauses 𝓤 H A mem run) (WpFn 𝓤 H (𝓣 .C) (𝓣 .Λ) code.function) (WpFn-mono 𝓤 H (W .laws) 𝓣 code.function)
-    (list-walks 𝓤 H A W mem run (𝓣 .C) (𝓣 .Λ) (fmOf 𝓤 H (W .laws) 𝓣) known-used known-put known-wire)
+list-meets 𝓤 H A W mem run 𝓣 known-used known-put known-body = walk-meets 𝓤 H A this.ended stayed W (goes-all 𝓤 H A W mem run) (this.clauses 𝓤 H A mem run) (WpFn 𝓤 H (𝓣 .C) (𝓣 .Λ) code.function) (WpFn-mono 𝓤 H (W .laws) 𝓣 code.function)
+    (list-walks 𝓤 H A W mem run (𝓣 .C) (𝓣 .Λ) (fmOf 𝓤 H (W .laws) 𝓣) known-used known-put known-body)
 
 pub write-error-list-spec : {M : Type 1} → stated.statement M
 unfolding code.routine tablesOf
@@ -304,4 +322,4 @@ write-error-list-spec 𝓤 H 𝓜 𝓖 𝓡 =
     (list-meets 𝓤 H (𝓖 .A) (givenOf 𝓤 H 𝓜 𝓖) (𝓜 .mem) (𝓡 .run) (tablesOf 𝓤 H 𝓜 (tables 𝓤 H 𝓜 𝓡 code.env))
     (cited 𝓤 H (Used 𝓤 H (𝓖 .A) (𝓜 .mem) (𝓡 .run)) 𝓜 𝓡 code.env #error-list·records-used used-def.routine code.calls-error-list·records-used (used-thm.met 𝓤 H 𝓜 𝓖 𝓡))
     (cited 𝓤 H (Put 𝓤 H (𝓖 .A) (𝓜 .mem) (𝓡 .run)) 𝓜 𝓡 code.env #error-list·put-records put-def.routine code.calls-error-list·put-records (put-thm.met 𝓤 H 𝓜 𝓖 𝓡))
-    (cited 𝓤 H (Wire 𝓤 H (𝓖 .A) (𝓜 .mem) (𝓡 .run)) 𝓜 𝓡 code.env #error-list·write-wire wire-def.routine code.calls-error-list·write-wire (wire-thm.met 𝓤 H 𝓜 𝓖 𝓡)))
+    (cited 𝓤 H (Body 𝓤 H (𝓖 .A) (𝓜 .mem) (𝓡 .run)) 𝓜 𝓡 code.env #report-write·write-reports body-def.routine code.calls-report-write·write-reports (body-thm.met 𝓤 H 𝓜 𝓖 𝓡)))

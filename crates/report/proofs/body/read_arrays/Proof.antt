@@ -11,7 +11,7 @@ use borrow.Author.Needs.{needs}
 use denote.Ref.{now}
 use lib.ListN.{length, length-append}
 use mathlib.Core.List.{List, [], _∷_, _++_}
-use mathlib.Core.Path.{_≡_, refl}
+use mathlib.Core.Path.{_≡_, refl, _∙_}
 use native.Mathlib.Nat.{sub-zero}
 use native.Mathlib.Omega.{arith}
 use Rattle.report.proofs.body.read_arrays.Statement.{statement}
@@ -92,7 +92,8 @@ loop-again c =
 returns-2 : tie.Need-returns-2 Inv-loop μ-loop
 returns-2 c =
     let l = c .before .loop in
-    rw (l .inv .7, l .inv .5, l .inv .6, arrays-done (l .inv .0) (c .before .before .before .before .args .n - l .i) (now (c .before .before .before .before .args .s)) (l .d .at) (omega arith))
+    let e : length (l .inv .0) ≡ c .before .before .before .before .args .n = l .inv .1 ∙ omega arith in
+    rw (l .inv .7, l .inv .5, l .inv .6, arrays-done (l .inv .0) (c .before .before .before .before .args .n - l .i) (now (c .before .before .before .before .args .s)) (l .d .at) (omega arith), e)
 
 pub read-arrays-spec : {M : Type 1} → statement M
 read-arrays-spec =

@@ -1,8 +1,8 @@
 -- `report_write::judge::errors_fit` meets its contract. The loop's invariant: the records passed are allowed, so what is left decides. The measure
 -- is how many are left.
-use Prim.Native.Nat.{_+_}
+use Prim.Native.Nat.{_+_, _*_}
 use Rattle.report_write.proofs.RecordLaws.{fits-next, fits-none}
-use Rattle.report_write.specs.Writing.{allFit, recordsFrom}
+use Rattle.report_write.specs.Writing.{allFit, recordsAt}
 use borrow.Author.Needs.{needs}
 use borrow.Author.Tests.{not-true, not-false}
 use denote.Ref.{now}
@@ -12,16 +12,13 @@ use Rattle.report_write.proofs.judge.errors_fit.Statement.{statement}
 use Rattle.report_write.proofs.judge.errors_fit.Tie as tie
 
 abbrev Inv-loop : tie.InvT-loop
-Inv-loop errors first n k₀ left₀ k left = (k + left ≡ first + n) × (allFit (recordsFrom n first errors) ≡ allFit (recordsFrom left k errors))
+Inv-loop errors from n at₀ left₀ at left = (at + 24 * left ≡ from + 24 * n) × (allFit (recordsAt n errors from) ≡ allFit (recordsAt left errors at))
 
 abbrev μ-loop : tie.MeasureT-loop
-μ-loop errors first n k₀ left₀ k left = left
+μ-loop errors from n at₀ left₀ at left = left
 
 loop-holds : tie.Need-loop-holds Inv-loop μ-loop
 loop-holds c = (refl, refl)
-
-mul-at : tie.Need-mul-at Inv-loop μ-loop
-mul-at c = search needs
 
 add-be4 : tie.Need-add-be4 Inv-loop μ-loop
 add-be4 c = search needs
@@ -41,10 +38,10 @@ error-fits-requires c κs = search needs
 returns : tie.Need-returns Inv-loop μ-loop
 returns c =
     let l = c .before .before .before .before .before .loop in
-    rw (l .inv .1, fits-next (l .left) (l .k) (now (c .before .before .before .before .before .before .before .args .errors)) _ _ _ (omega arith) (c .before .before .before .be4 .ensures) (c .before .before .be42 .ensures) (c .before .error-fits .ensures), not-true (c .before .error-fits .result) (c .if1 .taken))
+    rw (l .inv .1, fits-next (l .left) (now (c .before .before .before .before .before .before .before .args .errors)) (l .at) _ _ _ (omega arith) (c .before .before .before .be4 .ensures) (c .before .before .be42 .ensures) (c .before .error-fits .ensures), not-true (c .before .error-fits .result) (c .if1 .taken))
 
-add-k : tie.Need-add-k Inv-loop μ-loop
-add-k c = search needs
+add-at : tie.Need-add-at Inv-loop μ-loop
+add-at c = search needs
 
 sub-left : tie.Need-sub-left Inv-loop μ-loop
 sub-left c = search needs
@@ -55,12 +52,12 @@ loop-less c = search needs
 loop-again : tie.Need-loop-again Inv-loop μ-loop
 loop-again c =
     let l = c .before .before .before .before .before .loop in
-    (omega arith, rw (l .inv .1, fits-next (l .left) (l .k) (now (c .before .before .before .before .before .before .before .args .errors)) _ _ _ (omega arith) (c .before .before .before .be4 .ensures) (c .before .before .be42 .ensures) (c .before .error-fits .ensures), not-false (c .before .error-fits .result) (c .if1 .left)))
+    (omega arith, rw (l .inv .1, fits-next (l .left) (now (c .before .before .before .before .before .before .before .args .errors)) (l .at) _ _ _ (omega arith) (c .before .before .before .be4 .ensures) (c .before .before .be42 .ensures) (c .before .error-fits .ensures), not-false (c .before .error-fits .result) (c .if1 .left)))
 
 returns-2 : tie.Need-returns-2 Inv-loop μ-loop
 returns-2 c =
     let l = c .before .loop in
-    rw (l .inv .1, fits-none (l .left) (l .k) (now (c .before .before .before .args .errors)) (omega arith))
+    rw (l .inv .1, fits-none (l .left) (now (c .before .before .before .args .errors)) (l .at) (omega arith))
 
 pub errors-fit-spec : {M : Type 1} → statement M
 errors-fit-spec =
@@ -69,14 +66,13 @@ errors-fit-spec =
     Inv-loop
     μ-loop
     loop-holds
-    mul-at
     add-be4
     be4-requires
     add-be4-2
     be4-requires-2
     error-fits-requires
     returns
-    add-k
+    add-at
     sub-left
     loop-less
     loop-again

@@ -1,10 +1,10 @@
 -- `report_write::judge::judge` meets its contract. The loop's invariant: the reports passed are allowed, so the heads left and the records that they
--- use decide; the records passed are at most 16 for each report. The measure is how many heads are left.
+-- use decide; the records passed are at most 16 of 24 bytes for each report. The measure is how many heads are left.
 use Prim.Native.Nat.{_+_, _-_, _*_, _≤_, _<_}
 use Rattle.base.specs.Answer.{given}
 use Rattle.report_write.proofs.RecordLaws.{allowed, judged-next, judged-none}
 use Rattle.report_write.specs.Answers.{answerOfJudged}
-use Rattle.report_write.specs.Writing.{counts, judged, recordsFrom}
+use Rattle.report_write.specs.Writing.{counts, judged, recordsAt}
 use Rattle.xdr.proofs.Steps.{came}
 use borrow.Author.Needs.{needs}
 use denote.Ref.{now}
@@ -16,13 +16,13 @@ use Rattle.report_write.proofs.judge.judge.Statement.{statement}
 use Rattle.report_write.proofs.judge.judge.Tie as tie
 
 abbrev Inv-loop : tie.InvT-loop
-Inv-loop count errors heads k₀ i₀ k i =
-    (i ≤ count) × (count ≤ length heads) × (k ≤ 16 * i) × (count ≤ 8)
-    × (judged (take count heads) (recordsFrom (counts (take count heads)) 0 errors)
-    ≡ judged (take (count - i) (drop i heads)) (recordsFrom (counts (take (count - i) (drop i heads))) k errors))
+Inv-loop count errors heads from₀ i₀ from i =
+    (i ≤ count) × (count ≤ length heads) × (from ≤ 384 * i) × (count ≤ 8)
+    × (judged (take count heads) (recordsAt (counts (take count heads)) errors 0)
+    ≡ judged (take (count - i) (drop i heads)) (recordsAt (counts (take (count - i) (drop i heads))) errors from))
 
 abbrev μ-loop : tie.MeasureT-loop
-μ-loop count errors heads k₀ i₀ k i = count - i
+μ-loop count errors heads from₀ i₀ from i = count - i
 
 loop-holds : tie.Need-loop-holds Inv-loop μ-loop
 loop-holds c = (omega arith, omega (arith, c .before .pre, c .before .good .0 .1 .0 .1), omega arith, c .before .pre, rw (sub-zero (c .before .args .count)))
@@ -53,10 +53,13 @@ returns c =
     let hs = c .before .before .before .before .before .before .before .before .args .t1 in
     let h : l .i < length hs = omega arith in
     let m : 0 < n - l .i = omega arith in
-    rw (l .inv .4, judged-next hs (l .i) (n - l .i) (l .k) (now (c .before .before .before .before .before .before .before .before .args .errors)) h m, came answerOfJudged (c .before .before .judge-one .ensures) (c .enum-told2 .given .1), c .enum-told2 .given .1)
+    rw (l .inv .4, judged-next hs (l .i) (n - l .i) (now (c .before .before .before .before .before .before .before .before .args .errors)) (l .from) h m, came answerOfJudged (c .before .before .judge-one .ensures) (c .enum-told2 .given .1), c .enum-told2 .given .1)
 
-add-k : tie.Need-add-k Inv-loop μ-loop
-add-k c = search needs
+mul-from : tie.Need-mul-from Inv-loop μ-loop
+mul-from c = search needs
+
+add-from : tie.Need-add-from Inv-loop μ-loop
+add-from c = search needs
 
 add-i : tie.Need-add-i Inv-loop μ-loop
 add-i c = search needs
@@ -78,14 +81,14 @@ loop-again c =
       l .inv .1,
       omega (arith, l .inv .2, allowed _ _ k .few),
       l .inv .3,
-      rw (e, l .inv .4, judged-next hs (l .i) (n - l .i) (l .k) (now (c .before .before .before .before .before .before .before .before .args .errors)) h m, k),
+      rw (e, l .inv .4, judged-next hs (l .i) (n - l .i) (now (c .before .before .before .before .before .before .before .before .args .errors)) (l .from) h m, k),
     )
 
 returns-2 : tie.Need-returns-2 Inv-loop μ-loop
 returns-2 c =
     let l = c .before .loop in
     let n = c .before .before .before .args .count in
-    rw (l .inv .4, judged-none (c .before .before .before .args .t1) (l .i) (n - l .i) (recordsFrom (counts (take (n - l .i) (drop (l .i) (c .before .before .before .args .t1)))) (l .k) (now (c .before .before .before .args .errors))) (omega arith))
+    rw (l .inv .4, judged-none (c .before .before .before .args .t1) (l .i) (n - l .i) (recordsAt (counts (take (n - l .i) (drop (l .i) (c .before .before .before .args .t1)))) (now (c .before .before .before .args .errors)) (l .from)) (omega arith))
 
 pub judge-spec : {M : Type 1} → statement M
 judge-spec =
@@ -101,7 +104,8 @@ judge-spec =
     enum-told
     enum-told-2
     returns
-    add-k
+    mul-from
+    add-from
     add-i
     loop-less
     loop-again

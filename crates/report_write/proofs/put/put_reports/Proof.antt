@@ -3,7 +3,7 @@
 use Prim.Native.Nat.{_+_, _-_, _*_, _≤_, _<_}
 use Rattle.report_write.proofs.RecordLaws.{counts-next, noHead, reports-next, reports-none}
 use Rattle.report_write.proofs.StoringLaws.{length-errors, length-head, report-stored}
-use Rattle.report_write.specs.Writing.{counts, errorsBytes, headBytes, recordsFrom, reportsBytes}
+use Rattle.report_write.specs.Writing.{counts, errorsBytes, headBytes, recordsAt, reportsBytes}
 use borrow.Author.Needs.{needs}
 use denote.Ref.{now}
 use lib.ListN.{length, take, drop, getD}
@@ -15,14 +15,14 @@ use Rattle.report_write.proofs.put.put_reports.Statement.{statement}
 use Rattle.report_write.proofs.put.put_reports.Tie as tie
 
 abbrev Inv-loop : tie.InvT-loop
-Inv-loop out₀ count errors heads p₀ k₀ i₀ out p k i =
+Inv-loop out₀ count errors heads p₀ from₀ i₀ out p from i =
     (i ≤ count) × (count ≤ length heads) × (p + 36 * (count - i) + 24 * counts (take (count - i) (drop i heads)) ≤ length out₀)
-    × (24 * (k + counts (take (count - i) (drop i heads))) ≤ length errors) × (length out ≡ length out₀)
-    × (sets out₀ 4 (reportsBytes (take count heads) (recordsFrom (counts (take count heads)) 0 errors))
-    ≡ sets out p (reportsBytes (take (count - i) (drop i heads)) (recordsFrom (counts (take (count - i) (drop i heads))) k errors)))
+    × (from + 24 * counts (take (count - i) (drop i heads)) ≤ length errors) × (length out ≡ length out₀)
+    × (sets out₀ 4 (reportsBytes (take count heads) (recordsAt (counts (take count heads)) errors 0))
+    ≡ sets out p (reportsBytes (take (count - i) (drop i heads)) (recordsAt (counts (take (count - i) (drop i heads))) errors from)))
 
 abbrev μ-loop : tie.MeasureT-loop
-μ-loop out₀ count errors heads p₀ k₀ i₀ out p k i = count - i
+μ-loop out₀ count errors heads p₀ from₀ i₀ out p from i = count - i
 
 loop-holds : tie.Need-loop-holds Inv-loop μ-loop
 loop-holds c =
@@ -69,8 +69,11 @@ add-p c = search needs
 add-p-2 : tie.Need-add-p-2 Inv-loop μ-loop
 add-p-2 c = search needs
 
-add-k : tie.Need-add-k Inv-loop μ-loop
-add-k c = search needs
+mul-from : tie.Need-mul-from Inv-loop μ-loop
+mul-from c = search needs
+
+add-from : tie.Need-add-from Inv-loop μ-loop
+add-from c = search needs
 
 add-i : tie.Need-add-i Inv-loop μ-loop
 add-i c = search needs
@@ -94,8 +97,8 @@ loop-again c =
       rw e (omega (arith, a, l .inv .2)),
       rw e (omega (arith, a, l .inv .3)),
       c .before .before .put-errors .kept .0 ∙ c .before .before .before .before .before .before .put-head .kept .0 ∙ l .inv .4,
-      rw (e, l .inv .5, reports-next hs (l .i) (n - l .i) (l .k) errors h m, c .before .before .put-errors .ensures, c .before .before .before .before .before .before .put-head .ensures .0)
-          (report-stored (l .out) (l .p) (24 * head .errors) (headBytes head) (errorsBytes (recordsFrom (head .errors) (l .k) errors)) _ (length-head head (c .before .before .before .before .before .before .put-head .ensures .1)) (length-errors (head .errors) (l .k) errors (omega (arith, a, l .inv .3)))),
+      rw (e, l .inv .5, reports-next hs (l .i) (n - l .i) errors (l .from) h m, c .before .before .put-errors .ensures, c .before .before .before .before .before .before .put-head .ensures .0)
+          (report-stored (l .out) (l .p) (24 * head .errors) (headBytes head) (errorsBytes (recordsAt (head .errors) errors (l .from))) _ (length-head head (c .before .before .before .before .before .before .put-head .ensures .1)) (length-errors (head .errors) errors (l .from) (omega (arith, a, l .inv .3)))),
     )
 
 same-length : tie.Need-same-length Inv-loop μ-loop
@@ -106,7 +109,7 @@ returns c =
     let l = c .before .loop in
     let n = c .before .before .before .before .args .count in
     let hs = c .before .before .before .before .args .t2 in
-    let es = recordsFrom (counts (take (n - l .i) (drop (l .i) hs))) (l .k) (now (c .before .before .before .before .args .errors)) in
+    let es = recordsAt (counts (take (n - l .i) (drop (l .i) hs))) (now (c .before .before .before .before .args .errors)) (l .from) in
     sym (l .inv .5 ∙ ap (sets (l .out) (l .p)) (reports-none hs (l .i) (n - l .i) es (omega arith)))
 
 pub put-reports-spec : {M : Type 1} → statement M
@@ -125,7 +128,8 @@ put-reports-spec =
     mul-p
     add-p
     add-p-2
-    add-k
+    mul-from
+    add-from
     add-i
     loop-less
     loop-again
