@@ -4,6 +4,7 @@ use mathlib.Core.Path.{_≡_, refl}
 use mathlib.Core.Bool.{Bool, true, _&&_}
 use mathlib.Core.List.{List, [], _∷_}
 use Rattle.base.specs.Answer.{given, pick}
+use Rattle.base.specs.Best.{best}
 use Rattle.base.specs.Iomodes.{grantIomodeOf, iomodeOf}
 use Rattle.base.specs.Lists.{Each, padded}
 use Rattle.base.specs.Ranges.{rangeLast, requestLast}
@@ -18,8 +19,8 @@ use Rattle.reference.proofs.ShortFiles.{allStay, stays, staysIn}
 use Rattle.reference.specs.Sound.{allBlank, apart, apartFromNext, inOrder, isFit, noTwoAlike, segmentsSound, slotSound, slotsFrom, slotsIn, slotsSound, sound}
 use Rattle.report.specs.Reports.{errorFits}
 use Rattle.report_write.specs.Writing.{allFit, bodyBytes, bodyWritten, counts, errorBytes, errorsBytes, fitted, headBytes, judged, judgedOne, reportsBytes, reportsWritten}
-use Rattle.route.specs.Mirrors.{best, bestMirror, efficiencyOf}
-use Rattle.route.specs.Routes.{grantAt, layoutIn, mirrorsNamed, pieceAt, readFromRw, routed, servedBy, writeServed}
+use Rattle.route.specs.Mirrors.{bestMirror, efficiencyOf}
+use Rattle.route.specs.Routes.{grantIn, layoutIn, mirrorsNamed, pieceAt, routed, served}
 use Rattle.route.specs.Stripes.{pieceLength, stripeOf, unitRest}
 use Rattle.segments.specs.Segments.{anyBelow, anyNames, inFront, inPlaces, isNamed, scan, segmentsOf, withByte}
 use Rattle.server.specs.Servers.{handlesAt, headAt, serverAt}
@@ -57,7 +58,7 @@ all-in-full (Range offset len last ∷ xs) s h = (h .0, all-in-full xs s (h .1))
 all-in-full (NoReport bytes ∷ xs) s h = (h .0, all-in-full xs s (h .1))
 
 examples-short : Each HoldsShort examples
-unfolding given pick grantIomodeOf iomodeOf padded rangeLast requestLast frontAt layoutAt layoutBody mirrorAt mirrorsAt rows startsOf tailAt unitFits frameAt layout4 layout4At rangeAt beAt beBytes beFrom beValue leAt leBytes leValue sameBytes bodyOf grantBytes servers act afterAt answerTo answers anyByte covers grantOrder ifNamed inLowest inSlots meets modelAfter noneEmpty own rangeOrder run segmentsIn slotOf tooMany verdict allBlank apart apartFromNext inOrder isFit noTwoAlike segmentsSound slotSound slotsFrom slotsIn slotsSound sound errorFits allFit bodyBytes bodyWritten counts errorBytes errorsBytes fitted headBytes judged judgedOne reportsBytes reportsWritten best bestMirror efficiencyOf grantAt layoutIn mirrorsNamed pieceAt readFromRw routed servedBy writeServed pieceLength stripeOf unitRest anyBelow anyNames inFront inPlaces isNamed scan segmentsOf withByte handlesAt headAt serverAt bodyIn kindIn lengthIn slotBytes storeOf allZero bytesAt countAt numAt opaqueAt asItem manyAt then whole
+unfolding given pick grantIomodeOf iomodeOf padded rangeLast requestLast frontAt layoutAt layoutBody mirrorAt mirrorsAt rows startsOf tailAt unitFits frameAt layout4 layout4At rangeAt beAt beBytes beFrom beValue leAt leBytes leValue sameBytes bodyOf grantBytes servers act afterAt answerTo answers anyByte covers grantOrder ifNamed inLowest inSlots meets modelAfter noneEmpty own rangeOrder run segmentsIn slotOf tooMany verdict allBlank apart apartFromNext inOrder isFit noTwoAlike segmentsSound slotSound slotsFrom slotsIn slotsSound sound errorFits allFit bodyBytes bodyWritten counts errorBytes errorsBytes fitted headBytes judged judgedOne reportsBytes reportsWritten best bestMirror efficiencyOf grantIn layoutIn mirrorsNamed pieceAt routed served pieceLength stripeOf unitRest anyBelow anyNames inFront inPlaces isNamed scan segmentsOf withByte handlesAt headAt serverAt bodyIn kindIn lengthIn slotBytes storeOf allZero bytesAt countAt numAt opaqueAt asItem manyAt then whole
 examples-short = (refl, (refl, (refl, (refl, (refl, (refl, ((refl, refl, refl), ((refl, refl, refl), ((refl, refl, refl), ((refl, refl, refl), (refl, (refl, ((refl, refl, refl), (refl, tt))))))))))))))
 
 examples-stay : stayShort examples ≡ true

@@ -109,7 +109,7 @@ module _ (write : Bool) (t : Table) (store : List ℕ) (offset len : ℕ) where
         let r = by-parts in
         let v = r .serving in
         let w = what-serves t store offset write v (r .serves) in
-        let f = grant-found (listIn t (w .mode)) offset (v .grant) (w .grant) in
+        let f = grant-found (iomodeFor (w .mode)) (listIn t (w .mode)) offset (v .grant) (w .grant) in
         let m = served-limits write t store offset len (r .last) v (r .range) (r .serves) in
         let n : pieceLength (v .layout .summary .unit) (v .layout .summary .servers) (v .grant .last) offset len ≡ p .length = ap (λ (q : Piece). q .length) (r .piece) in
         let b = piece-in-rest (v .layout .summary .unit) (v .layout .summary .servers) (v .grant .last) offset len in

@@ -20,20 +20,20 @@ use Rattle.reference.specs.Sound.{isAccepted, slotsIn, sound}
 use Rattle.reference.specs.Claim.{rightIn, underSlot, withBody}
 use Rattle.reference.proofs.SoundParts.{holding, sounds}
 use Rattle.reference.proofs.SoundRights.{Under, under-at}
-use Rattle.route.specs.Routes.{Grant, Serving, grantAt, grantOf, layoutIn, noReads, pieceAt, readFromRw, readServed, routed, served, servedBy, writeServed}
-use Rattle.route.specs.Rights.{ServedUnder, byGrant, orElse, readsByRw, servedByRights, servedOf}
+use Rattle.route.specs.Routes.{Serving, grantAt, grantIn, grantOf, iomodeFor, layoutIn, noReads, orElse, pieceAt, routed, served}
+use Rattle.route.specs.Rights.{ServedUnder, byGrant, readsByRw, servedByRights, servedOf}
 use Rattle.route.proofs.ServedLaws.{body-accepted}
 
 -- ---- a grant at a byte
 
 -- the grant that a list has at a byte is that of the right that it shows there
-grant-shown : (l : List Segment) (x : ℕ) → (last : ℕ) × (grantAt l x ≡ grantOf (rightAt l x) last)
-unfolding grantAt rightAt pick
-grant-shown [] x = (0, refl)
-grant-shown (s ∷ l) x = go (within (s .first) (s .last) x) (grant-shown l x)
+grant-shown : (m : Iomode) (l : List Segment) (x : ℕ) → (last : ℕ) × (grantIn m l x ≡ grantOf m (rightAt l x) last)
+unfolding grantIn rightAt pick
+grant-shown m [] x = (0, refl)
+grant-shown m (s ∷ l) x = go (within (s .first) (s .last) x) (grant-shown m l x)
   where
-    go : (b : Bool) → (last : ℕ) × (grantAt l x ≡ grantOf (rightAt l x) last)
-        → (last : ℕ) × (pick b (grantOf (s .right) (s .last)) (grantAt l x) ≡ grantOf (pick b (s .right) (rightAt l x)) last)
+    go : (b : Bool) → (last : ℕ) × (grantIn m l x ≡ grantOf m (rightAt l x) last)
+        → (last : ℕ) × (pick b (grantOf m (s .right) (s .last)) (grantIn m l x) ≡ grantOf m (pick b (s .right) (rightAt l x)) last)
     go true rest = (s .last, refl)
     go false rest = rest
 
@@ -48,70 +48,63 @@ module _ (t : Table) (store : List ℕ) (s : sound t store ≡ true) where
 
   -- a byte's grant and its right in an iomode: granted, under the body in the grant's slot, or no grant
   data Seen (m : Mode) (x : ℕ) : Type 0 where
-    by-grant : (g : Grant) → grantAt (listIn t m) x ≡ accepted g → rightIn t store m x ≡ granted (bodyIn (slotAt store (g .slot))) → Seen m x
-    without : grantAt (listIn t m) x ≡ refused 17 → ((i : Iomode) → byGrant i (rightIn t store m x) ≡ refused 17) → Seen m x
+    by-grant : (slot last : ℕ) → grantAt t m x ≡ accepted (record { iomode = iomodeFor m; slot = slot; last = last })
+        → rightIn t store m x ≡ granted (bodyIn (slotAt store slot)) → Seen m x
+    without : grantAt t m x ≡ refused 17 → ((i : Iomode) → byGrant i (rightIn t store m x) ≡ refused 17) → Seen m x
 
   seen : (m : Mode) (x : ℕ) → Seen m x
   unfolding rightIn
-  seen m x = go (rightAt (listIn t m) x) refl (grant-shown (listIn t m) x) (under-at t store (sounds t store s) m x)
+  seen m x = go (rightAt (listIn t m) x) refl (grant-shown (iomodeFor m) (listIn t m) x) (under-at t store (sounds t store s) m x)
     where
-      go : (r : Right) → rightAt (listIn t m) x ≡ r → (last : ℕ) × (grantAt (listIn t m) x ≡ grantOf (rightAt (listIn t m) x) last)
+      go : (r : Right) → rightAt (listIn t m) x ≡ r → (last : ℕ) × (grantAt t m x ≡ grantOf (iomodeFor m) (rightAt (listIn t m) x) last)
           → Under (slotsIn t store) (rightAt (listIn t m) x) → Seen m x
-      go None e g u = without (g .1 ∙ ap (λ (r : Right). grantOf r (g .0)) e) (λ i. ap (λ (r : Right). byGrant i (withBody (slotsIn t store) r)) e)
+      go None e g u =
+          without (g .1 ∙ ap (λ (r : Right). grantOf (iomodeFor m) r (g .0)) e) (λ i. ap (λ (r : Right). byGrant i (withBody (slotsIn t store) r)) e)
       go (Granted i) e g u =
-          by-grant (record { slot = i .0; last = g .0 }) (g .1 ∙ ap (λ (r : Right). grantOf r (g .0)) e) (granted-under m x i e)
+          by-grant (i .0) (g .0) (g .1 ∙ ap (λ (r : Right). grantOf (iomodeFor m) r (g .0)) e) (granted-under m x i e)
       go (Recalled i) e g u =
           let w : Under (slotsIn t store) (Recalled i) = rw e at u in
-          without (g .1 ∙ ap (λ (r : Right). grantOf r (g .0)) e)
+          without (g .1 ∙ ap (λ (r : Right). grantOf (iomodeFor m) r (g .0)) e)
           (λ k. ap (λ (r : Right). byGrant k (withBody (slotsIn t store) r)) e ∙ ap (λ (c : Slot). byGrant k (underSlot recalled c)) (w .1))
 
   -- ---- what serves
 
   abbrev under : Serving → Answer ServedUnder
-  under v = accepted (record { iomode = v .iomode; body = bodyIn (slotAt store (v .grant .slot)) })
+  under v = accepted (record { iomode = v .grant .iomode; body = bodyIn (slotAt store (v .grant .slot)) })
 
   -- the layout under which a byte is granted
-  layout-read : (m : Mode) (x : ℕ) (g : Grant) → grantAt (listIn t m) x ≡ accepted g → (l : Layout) × (layoutIn store (g .slot) ≡ accepted l)
-  layout-read m x g e = go (layoutIn store (g .slot)) refl (body-accepted t store s m x g e)
+  layout-read : (m : Mode) (x slot last : ℕ) → grantAt t m x ≡ accepted (record { iomode = iomodeFor m; slot = slot; last = last })
+      → (l : Layout) × (layoutIn store slot ≡ accepted l)
+  layout-read m x slot last e = go (layoutIn store slot) refl (body-accepted t store s m x _ e)
     where
-      go : (a : Answer Layout) → layoutIn store (g .slot) ≡ a → isAccepted a ≡ true → (l : Layout) × (layoutIn store (g .slot) ≡ accepted l)
+      go : (a : Answer Layout) → layoutIn store slot ≡ a → isAccepted a ≡ true → (l : Layout) × (layoutIn store slot ≡ accepted l)
       go (accepted l) e h = (l, e)
       go (refused n) e h = absurd (false≢true h)
 
-  write-by-rights : (x : ℕ) → given (writeServed t store x) under ≡ byGrant ReadWrite (rightIn t store RW x)
-  unfolding writeServed servedBy given
-  write-by-rights x = go (seen RW x)
+  served-by-rights : (write : Bool) (x : ℕ) → given (served write t store x) under ≡ servedByRights write (rightIn t store READ x) (rightIn t store RW x)
+  unfolding served readsByRw layoutIn given pick
+  served-by-rights true x = go (seen RW x)
     where
-      go : Seen RW x → given (writeServed t store x) under ≡ byGrant ReadWrite (rightIn t store RW x)
-      go (by-grant g e r) = let l = layout-read RW x g e in rw (e, l .1, r)
+      go : Seen RW x → given (served true t store x) under ≡ byGrant ReadWrite (rightIn t store RW x)
+      go (by-grant i last e r) = let l = layout-read RW x i last e in rw (e, l .1, r)
       go (without e r) = rw (e, r ReadWrite)
-
-  rw-by-rights : (x : ℕ) → given (readFromRw t store x) under ≡ readsByRw (rightIn t store RW x)
-  unfolding readFromRw readsByRw writeServed servedBy layoutIn given pick
-  rw-by-rights x = go (seen RW x)
+  served-by-rights false x = go (seen READ x) (seen RW x)
     where
       flag : (b : Bool) (v : Serving) → given (pick b (refused 17) (accepted v)) under ≡ pick b (refused 17) (under v)
       flag true v = refl
       flag false v = refl
 
-      read : (g : Grant) (a : Answer Layout)
-          → given (given (given a λ l. accepted (record { iomode = ReadWrite; grant = g; layout = l })) λ v. pick (noReads (v .layout .summary .flags)) (refused 17) (accepted v)) under
-          ≡ given a (λ l. pick (noReads (l .summary .flags)) (refused 17) (accepted (record { iomode = ReadWrite; body = bodyIn (slotAt store (g .slot)) })))
-      read g (accepted l) = flag (noReads (l .summary .flags)) (record { iomode = ReadWrite; grant = g; layout = l })
-      read g (refused n) = refl
+      read : (slot last : ℕ) (a : Answer Layout)
+          → given (given a λ l. pick (noReads (l .summary .flags)) (refused 17) (accepted (record { grant = record { iomode = ReadWrite; slot = slot; last = last }; layout = l }))) under
+          ≡ given a (λ l. pick (noReads (l .summary .flags)) (refused 17) (accepted (record { iomode = ReadWrite; body = bodyIn (slotAt store slot) })))
+      read slot last (accepted l) = flag (noReads (l .summary .flags)) (record { grant = record { iomode = ReadWrite; slot = slot; last = last }; layout = l })
+      read slot last (refused n) = refl
 
-      go : Seen RW x → given (readFromRw t store x) under ≡ readsByRw (rightIn t store RW x)
-      go (by-grant g e r) = rw (e, r) (read g (layoutIn store (g .slot)))
-      go (without e r) = rw (e, r ReadWrite)
-
-  served-by-rights : (write : Bool) (x : ℕ) → given (served write t store x) under ≡ servedByRights write (rightIn t store READ x) (rightIn t store RW x)
-  unfolding servedBy given
-  served-by-rights true x = write-by-rights x
-  served-by-rights false x = go (seen READ x)
-    where
-      go : Seen READ x → given (readServed (grantAt (listIn t READ) x) t store x) under ≡ orElse (byGrant Read (rightIn t store READ x)) (readsByRw (rightIn t store RW x))
-      go (by-grant g e r) = let l = layout-read READ x g e in rw (e, l .1, r)
-      go (without e r) = rw (e, r Read) (rw-by-rights x)
+      go : Seen READ x → Seen RW x
+          → given (served false t store x) under ≡ orElse (byGrant Read (rightIn t store READ x)) (readsByRw (rightIn t store RW x))
+      go (by-grant i last e r) w = let l = layout-read READ x i last e in rw (e, l .1, r)
+      go (without e r) (by-grant i last f q) = rw (e, r Read, f, q) (read i last (layoutIn store i))
+      go (without e r) (without f q) = rw (e, r Read, f, q ReadWrite)
 
   -- ---- the answer
 

@@ -4,13 +4,13 @@ use mathlib.Core.Path.{_≡_, refl, sym, ap, _∙_}
 use mathlib.Core.Bool.{Bool, true, false, false≢true, or-true}
 use mathlib.Core.List.{List, [], _∷_}
 use native.Mathlib.Omega.{arith}
-use borrow.Author.Tests.{eq-eqb, leb-true, ltb-true, ne-eqb}
+use borrow.Author.Tests.{eq-eqb, leb-true, lt-ltb, ltb-true, ne-eqb}
 use lib.Dec.{leb, eqb}
 use lib.ListN.{length, getD}
 use Rattle.base.specs.Answer.{Answer, accepted, refused, given, pick}
 use Rattle.base.specs.Ranges.{largestSum, requestLast}
 use Rattle.base.specs.declared.iomode.Iomode.{Iomode}
-use Rattle.base.specs.declared.iomode.Iomode.the-variants.{Read, ReadWrite}
+use Rattle.base.specs.declared.iomode.Iomode.the-variants.{ReadWrite}
 use Rattle.base.proofs.AnswerLaws.{both, gave, never-accepted, never-refused, same-answer, same-refusal}
 use Rattle.layout.specs.Layouts.{Layout, unitFits}
 use Rattle.layout.proofs.LayoutLaws.{accepted-limits}
@@ -18,15 +18,18 @@ use Rattle.segments.specs.declared.Right.{Right}
 use Rattle.segments.specs.declared.Right.the-variants.{None, Granted, Recalled}
 use Rattle.segments.specs.declared.Segment.{Segment}
 use Rattle.segments.specs.declared.Table.{Table}
-use Rattle.segments.specs.Segments.{Mode, READ, RW, anyNames, blank, isOfSlot, listIn, rightAt, within}
+use Rattle.segments.specs.Segments.{Mode, READ, RW, anyNames, blank, isNamed, isOfSlot, listIn, rightAt, within}
 use Rattle.store.specs.Store.{bodyIn, slotAt}
 use Rattle.reference.specs.Sound.{hasSlot, inOrder, isAccepted, sound}
 use Rattle.reference.proofs.SoundParts.{in-order, listed, named-in, named-sound, sounds}
-use Rattle.route.specs.Routes.{Grant, Serving, grantAt, grantOf, iomodeFor, layoutIn, noReads, readFromRw, readServed, served, servedBy, writeServed}
+use Rattle.route.specs.Answers.{slotAsked}
+use Rattle.soundness.specs.Judgements.{layoutJudged, layoutNamed}
+use Rattle.route.specs.Routes.{Grant, Serving, grantAt, grantIn, grantOf, iomodeFor, isBarred, layoutIn, orElse, served, servingGrant}
 
 -- ---- a granted byte
 
-pub record Found (l : List Segment) (x : ℕ) (g : Grant) : Type 0 where
+pub record Found (m : Iomode) (l : List Segment) (x : ℕ) (g : Grant) : Type 0 where
+  pub iomode : g .iomode ≡ m
   pub place : ℕ
   pub placed : place < length l
   pub first : getD l place blank .first ≤ x
@@ -35,27 +38,29 @@ pub record Found (l : List Segment) (x : ℕ) (g : Grant) : Type 0 where
   pub right : getD l place blank .right ≡ Granted (record { 0 = g .slot })
   pub shown : rightAt l x ≡ Granted (record { 0 = g .slot })
 
-granted-is : (r : Right) (n : ℕ) (g : Grant) → grantOf r n ≡ accepted g → (r ≡ Granted (record { 0 = g .slot })) × (n ≡ g .last)
-granted-is None n g e = never-accepted 17 g e
-granted-is (Granted s) n g e =
-    let f = same-answer {a = record { slot = s .0; last = n }} e in
-    (ap (λ (h : Grant). Granted (record { 0 = h .slot })) f, ap (λ (h : Grant). h .last) f)
-granted-is (Recalled s) n g e = never-accepted 17 g e
+granted-is : (m : Iomode) (r : Right) (n : ℕ) (g : Grant) → grantOf m r n ≡ accepted g
+    → (r ≡ Granted (record { 0 = g .slot })) × (n ≡ g .last) × (g .iomode ≡ m)
+granted-is m None n g e = never-accepted 17 g e
+granted-is m (Granted s) n g e =
+    let f = same-answer {a = record { iomode = m; slot = s .0; last = n }} e in
+    (ap (λ (h : Grant). Granted (record { 0 = h .slot })) f, ap (λ (h : Grant). h .last) f, ap (λ (h : Grant). h .iomode) (sym f))
+granted-is m (Recalled s) n g e = never-accepted 17 g e
 
-pub grant-found : (l : List Segment) (x : ℕ) (g : Grant) → grantAt l x ≡ accepted g → Found l x g
-unfolding grantAt rightAt pick
-grant-found [] x g e = never-accepted 17 g e
-grant-found (s ∷ l) x g e = go (within (s .first) (s .last) x) refl e (grant-found l x g)
+pub grant-found : (m : Iomode) (l : List Segment) (x : ℕ) (g : Grant) → grantIn m l x ≡ accepted g → Found m l x g
+unfolding grantIn rightAt pick
+grant-found m [] x g e = never-accepted 17 g e
+grant-found m (s ∷ l) x g e = go (within (s .first) (s .last) x) refl e (grant-found m l x g)
   where
-    go : (b : Bool) → within (s .first) (s .last) x ≡ b → pick b (grantOf (s .right) (s .last)) (grantAt l x) ≡ accepted g
-        → (grantAt l x ≡ accepted g → Found l x g) → Found (s ∷ l) x g
+    go : (b : Bool) → within (s .first) (s .last) x ≡ b → pick b (grantOf m (s .right) (s .last)) (grantIn m l x) ≡ accepted g
+        → (grantIn m l x ≡ accepted g → Found m l x g) → Found m (s ∷ l) x g
     go true h k rest =
         let u = both (leb (s .first) x) (leb x (s .last)) h in
-        let r = granted-is (s .right) (s .last) g k in
+        let r = granted-is m (s .right) (s .last) g k in
         let lo : s .first ≤ x = leb-true (s .first) x (u .0) in
         let hi : x ≤ s .last = leb-true x (s .last) (u .1) in
         let e : s .last ≡ g .last = r .1 in
         record {
+          iomode = r .2;
           place = 0;
           placed = omega arith;
           first = lo;
@@ -68,6 +73,7 @@ grant-found (s ∷ l) x g e = go (within (s .first) (s .last) x) refl e (grant-f
         let f = rest k in
         let d : f .place < length l = f .placed in
         record {
+          iomode = f .iomode;
           place = suc (f .place);
           placed = omega arith;
           first = f .first;
@@ -78,66 +84,74 @@ grant-found (s ∷ l) x g e = go (within (s .first) (s .last) x) refl e (grant-f
         }
 
 -- a byte without a grant is refused with 17
-pub grant-refused : (l : List Segment) (x n : ℕ) → grantAt l x ≡ refused n → n ≡ 17
-unfolding grantAt pick
-grant-refused [] x n e = sym (same-refusal {A = Grant} 17 n e)
-grant-refused (s ∷ l) x n e = go (within (s .first) (s .last) x) e (grant-refused l x n)
+pub grant-refused : (m : Iomode) (l : List Segment) (x n : ℕ) → grantIn m l x ≡ refused n → n ≡ 17
+unfolding grantIn pick
+grant-refused m [] x n e = sym (same-refusal {A = Grant} 17 n e)
+grant-refused m (s ∷ l) x n e = go (within (s .first) (s .last) x) e (grant-refused m l x n)
   where
-    here : (r : Right) → grantOf r (s .last) ≡ refused n → n ≡ 17
+    here : (r : Right) → grantOf m r (s .last) ≡ refused n → n ≡ 17
     here None k = sym (same-refusal {A = Grant} 17 n k)
-    here (Granted i) k = never-refused (record { slot = i .0; last = s .last }) n k
+    here (Granted i) k = never-refused (record { iomode = m; slot = i .0; last = s .last }) n k
     here (Recalled i) k = sym (same-refusal {A = Grant} 17 n k)
 
-    go : (b : Bool) → pick b (grantOf (s .right) (s .last)) (grantAt l x) ≡ refused n → (grantAt l x ≡ refused n → n ≡ 17) → n ≡ 17
+    go : (b : Bool) → pick b (grantOf m (s .right) (s .last)) (grantIn m l x) ≡ refused n → (grantIn m l x ≡ refused n → n ≡ 17) → n ≡ 17
     go true k rest = here (s .right) k
     go false k rest = rest k
 
 -- ---- what serves
 
+-- a grant that serves is one of an iomode, and of RW for a write
+pub record Chosen (write : Bool) (t : Table) (x : ℕ) (g : Grant) : Type 0 where
+  pub mode : Mode
+  pub grant : grantAt t mode x ≡ accepted g
+  pub in-rw : write ≡ true → mode ≡ RW
+
+module _ (t : Table) (x : ℕ) where
+  pub what-is-chosen : (write : Bool) (g : Grant) → servingGrant write t x ≡ accepted g → Chosen write t x g
+  what-is-chosen true g e = record { mode = RW; grant = e; in-rw = λ w. refl }
+  what-is-chosen false g e = go (grantAt t READ x) refl e
+    where
+      go : (a : Answer Grant) → grantAt t READ x ≡ a → orElse a (grantAt t RW x) ≡ accepted g → Chosen false t x g
+      go (accepted h) f k = record { mode = READ; grant = f ∙ k; in-rw = λ w. absurd (false≢true w) }
+      go (refused n) f k = record { mode = RW; grant = k; in-rw = λ w. refl }
+
+  -- where nothing serves it is 17
+  pub none-chosen : (write : Bool) (n : ℕ) → servingGrant write t x ≡ refused n → n ≡ 17
+  none-chosen true n e = grant-refused ReadWrite (listIn t RW) x n e
+  none-chosen false n e = go (grantAt t READ x) e
+    where
+      go : (a : Answer Grant) → orElse a (grantAt t RW x) ≡ refused n → n ≡ 17
+      go (accepted h) k = never-refused h n k
+      go (refused j) k = grant-refused ReadWrite (listIn t RW) x n k
+
 pub record Serves (write : Bool) (t : Table) (store : List ℕ) (x : ℕ) (v : Serving) : Type 0 where
   pub mode : Mode
-  pub iomode : v .iomode ≡ iomodeFor mode
-  pub grant : grantAt (listIn t mode) x ≡ accepted (v .grant)
+  pub iomode : v .grant .iomode ≡ iomodeFor mode
+  pub grant : grantAt t mode x ≡ accepted (v .grant)
   pub layout : layoutIn store (v .grant .slot) ≡ accepted (v .layout)
   pub in-rw : write ≡ true → mode ≡ RW
 
-module _ (t : Table) (store : List ℕ) (x : ℕ) where
-  by-slot : (write : Bool) (m : Mode) (g : Grant) (v : Serving) → (write ≡ true → m ≡ RW) → grantAt (listIn t m) x ≡ accepted g
-      → servedBy (iomodeFor m) store g ≡ accepted v → Serves write t store x v
-  unfolding servedBy
-  by-slot write m g v w e h =
-      let r = gave _ _ v h in
-      let f = same-answer {a = record { iomode = iomodeFor m; grant = g; layout = r .value }} (r .rest) in
-      record {
-        mode = m;
-        iomode = ap (λ (u : Serving). u .iomode) (sym f);
-        grant = e ∙ ap (λ (u : Serving). accepted (u .grant)) f;
-        layout = ap (λ (u : Serving). layoutIn store (u .grant .slot)) (sym f) ∙ (r .first ∙ ap (λ (u : Serving). accepted (u .layout)) f);
-        in-rw = w;
-      }
-
-  write-serves : (write : Bool) (v : Serving) → writeServed t store x ≡ accepted v → Serves write t store x v
-  unfolding writeServed
-  write-serves write v h = let r = gave _ _ v h in by-slot write RW (r .value) v (λ e. refl) (r .first) (r .rest)
-
-  -- "RW granted under a body without flag 4"
-  pub from-rw : (v : Serving) → readFromRw t store x ≡ accepted v
-      → (writeServed t store x ≡ accepted v) × (noReads (v .layout .summary .flags) ≡ false)
-  unfolding readFromRw pick
-  from-rw v h = let r = gave _ _ v h in go (r .value) (r .first) (noReads (r .value .layout .summary .flags)) refl (r .rest)
-    where
-      go : (u : Serving) → writeServed t store x ≡ accepted u → (b : Bool) → noReads (u .layout .summary .flags) ≡ b
-          → pick b (refused 17) (accepted u) ≡ accepted v → (writeServed t store x ≡ accepted v) × (noReads (v .layout .summary .flags) ≡ false)
-      go u e true k p = never-accepted 17 v p
-      go u e false k p = (e ∙ p, ap (λ (y : Serving). noReads (y .layout .summary .flags)) (sym (same-answer p)) ∙ k)
-
-  pub what-serves : (write : Bool) (v : Serving) → served write t store x ≡ accepted v → Serves write t store x v
-  what-serves true v h = write-serves true v h
-  what-serves false v h = go (grantAt (listIn t READ) x) refl h
-    where
-      go : (a : Answer Grant) → grantAt (listIn t READ) x ≡ a → readServed a t store x ≡ accepted v → Serves false t store x v
-      go (accepted g) e k = by-slot false READ g v (λ f. absurd (false≢true f)) e k
-      go (refused n) e k = write-serves false v (from-rw v k .0)
+pub what-serves : (t : Table) (store : List ℕ) (x : ℕ) (write : Bool) (v : Serving) → served write t store x ≡ accepted v → Serves write t store x v
+unfolding served pick
+what-serves t store x write v h =
+    let r = gave _ _ v h in
+    let q = gave _ _ v (r .rest) in
+    go (r .value) (r .first) (q .value) (q .first) (isBarred write (r .value .iomode) (q .value .summary .flags)) (q .rest)
+  where
+    go : (g : Grant) → servingGrant write t x ≡ accepted g → (l : Layout) → layoutIn store (g .slot) ≡ accepted l → (b : Bool)
+        → pick b (refused 17) (accepted (record { grant = g; layout = l })) ≡ accepted v → Serves write t store x v
+    go g e l f true k = never-accepted 17 v k
+    go g e l f false k =
+        let w : record { grant = g; layout = l } ≡ v = same-answer k in
+        let c = what-is-chosen t x write g e in
+        let i = grant-found (iomodeFor (c .mode)) (listIn t (c .mode)) x g (c .grant) .iomode in
+        record {
+          mode = c .mode;
+          iomode = ap (λ (u : Serving). u .grant .iomode) (sym w) ∙ i;
+          grant = c .grant ∙ ap (λ (u : Serving). accepted (u .grant)) w;
+          layout = ap (λ (u : Serving). layoutIn store (u .grant .slot)) (sym w) ∙ (f ∙ ap (λ (u : Serving). accepted (u .layout)) w);
+          in-rw = c .in-rw;
+        }
 
 -- ---- limits
 
@@ -171,7 +185,7 @@ pub served-limits : (write : Bool) (t : Table) (store : List ℕ) (offset len la
 unfolding layoutIn
 served-limits write t store offset len last v r s =
     let w = what-serves t store offset write v s in
-    let f = grant-found (listIn t (w .mode)) offset (v .grant) (w .grant) in
+    let f = grant-found (iomodeFor (w .mode)) (listIn t (w .mode)) offset (v .grant) (w .grant) in
     let l = accepted-limits (bodyIn (slotAt store (v .grant .slot))) (v .layout) (w .layout) in (
       request-some offset len last r,
       f .inside,
@@ -194,50 +208,54 @@ named-at (s ∷ l) zero i h e = rw (e, eq-eqb i i refl)
 named-at (s ∷ l) (suc k) i h e = rw (named-at l k i (omega arith) e) (or-true (isOfSlot i (s .right)))
 
 module _ (t : Table) (store : List ℕ) (s : sound t store ≡ true) where
+  -- the slot under which a byte is granted is one of the eight, and named
+  slot-named : (m : Mode) (x : ℕ) (g : Grant) → grantAt t m x ≡ accepted g → (g .slot < 8) × (isNamed t (g .slot) ≡ true)
+  slot-named m x g e =
+      let f = grant-found (iomodeFor m) (listIn t m) x g e in
+      let w = sounds t store s in
+      let h : hasSlot (Granted (record { 0 = g .slot })) ≡ true = ap hasSlot (sym (f .right)) ∙ slot-at (listIn t m) (f .place) (listed t store w m .order) (f .placed) in
+      (ltb-true (g .slot) 8 h, named-in t store w m (g .slot) (named-at (listIn t m) (f .place) (g .slot) (f .placed) (f .right)))
+
   -- the body under which a byte is granted is one that the layout body's reader accepts
-  pub body-accepted : (m : Mode) (x : ℕ) (g : Grant) → grantAt (listIn t m) x ≡ accepted g → isAccepted (layoutIn store (g .slot)) ≡ true
+  pub body-accepted : (m : Mode) (x : ℕ) (g : Grant) → grantAt t m x ≡ accepted g → isAccepted (layoutIn store (g .slot)) ≡ true
   unfolding layoutIn
   body-accepted m x g e =
-      let f = grant-found (listIn t m) x g e in
-      let w = sounds t store s in
-      let n = named-in t store w m (g .slot) (named-at (listIn t m) (f .place) (g .slot) (f .placed) (f .right)) in
-      let h : hasSlot (Granted (record { 0 = g .slot })) ≡ true = ap hasSlot (sym (f .right)) ∙ slot-at (listIn t m) (f .place) (listed t store w m .order) (f .placed) in
-      named-sound t store w (g .slot) (ltb-true (g .slot) 8 h) n .read
+      let n = slot-named m x g e in
+      named-sound t store (sounds t store s) (g .slot) (n .0) (n .1) .read
 
-  by-slot-refused : (i : Iomode) (g : Grant) (n : ℕ) → isAccepted (layoutIn store (g .slot)) ≡ true → servedBy i store g ≡ refused n → ⊥
-  unfolding servedBy given
-  by-slot-refused i g n h k = go (layoutIn store (g .slot)) h k
-    where
-      go : (a : Answer Layout) → isAccepted a ≡ true → given {B = Serving} a (λ l. accepted (record { iomode = i; grant = g; layout = l })) ≡ refused n → ⊥
-      go (accepted l) p q = never-refused (record { iomode = i; grant = g; layout = l }) n q
-      go (refused k) p q = false≢true p
+  -- and what the judgement reads in that slot
+  pub body-judged : (m : Mode) (x : ℕ) (g : Grant) → grantAt t m x ≡ accepted g → layoutJudged t store (g .slot) ≡ layoutIn store (g .slot)
+  unfolding layoutJudged layoutNamed layoutIn pick
+  body-judged m x g e = let n = slot-named m x g e in rw (s, lt-ltb (g .slot) 8 (n .0), n .1)
 
-  write-refused : (x n : ℕ) → writeServed t store x ≡ refused n → n ≡ 17
-  unfolding writeServed given
-  write-refused x n h = go (grantAt (listIn t RW) x) refl h
-    where
-      go : (a : Answer Grant) → grantAt (listIn t RW) x ≡ a → given a (λ g. servedBy ReadWrite store g) ≡ refused n → n ≡ 17
-      go (accepted g) e k = absurd (by-slot-refused ReadWrite g n (body-accepted RW x g e) k)
-      go (refused j) e k = sym (same-refusal {A = Serving} j n k) ∙ grant-refused (listIn t RW) x j e
+  -- what is read for the grant that serves is the layout in its slot, and it is accepted
+  pub body-asked : (write : Bool) (x : ℕ) (g : Grant) (i : ℕ) → servingGrant write t x ≡ accepted g → i ≡ slotAsked (servingGrant write t x)
+      → layoutJudged t store i ≡ layoutIn store (g .slot)
+  body-asked write x g i e f =
+      let c = what-is-chosen t x write g e in
+      ap (λ (j : ℕ). layoutJudged t store j) (f ∙ ap slotAsked e) ∙ body-judged (c .mode) x g (c .grant)
 
-  from-rw-refused : (x n : ℕ) → readFromRw t store x ≡ refused n → n ≡ 17
-  unfolding readFromRw given pick
-  from-rw-refused x n h = go (writeServed t store x) refl h
-    where
-      last : (b : Bool) (v : Serving) → pick b (refused 17) (accepted v) ≡ refused n → n ≡ 17
-      last true v k = sym (same-refusal {A = Serving} 17 n k)
-      last false v k = never-refused v n k
-
-      go : (a : Answer Serving) → writeServed t store x ≡ a
-          → given a (λ v. pick (noReads (v .layout .summary .flags)) (refused 17) (accepted v)) ≡ refused n → n ≡ 17
-      go (accepted v) e k = last (noReads (v .layout .summary .flags)) v k
-      go (refused j) e k = sym (same-refusal {A = Serving} j n k) ∙ write-refused x j e
+  pub body-not-refused : (write : Bool) (x : ℕ) (g : Grant) (n : ℕ) → servingGrant write t x ≡ accepted g → layoutIn store (g .slot) ≡ refused n → ⊥
+  body-not-refused write x g n e f =
+      let c = what-is-chosen t x write g e in
+      false≢true (ap isAccepted (sym f) ∙ body-accepted (c .mode) x g (c .grant))
 
   -- a request that is not served is refused with 17
   pub served-refused : (write : Bool) (x n : ℕ) → served write t store x ≡ refused n → n ≡ 17
-  served-refused true x n h = write-refused x n h
-  served-refused false x n h = go (grantAt (listIn t READ) x) refl h
+  unfolding served given pick
+  served-refused write x n h = first (servingGrant write t x) refl h
     where
-      go : (a : Answer Grant) → grantAt (listIn t READ) x ≡ a → readServed a t store x ≡ refused n → n ≡ 17
-      go (accepted g) e k = absurd (by-slot-refused Read g n (body-accepted READ x g e) k)
-      go (refused j) e k = from-rw-refused x n k
+      third : (g : Grant) (l : Layout) (b : Bool) → pick {A = Answer Serving} b (refused 17) (accepted (record { grant = g; layout = l })) ≡ refused n → n ≡ 17
+      third g l true k = sym (same-refusal {A = Serving} 17 n k)
+      third g l false k = never-refused (record { grant = g; layout = l }) n k
+
+      second : (g : Grant) (a : Answer Layout) → isAccepted a ≡ true
+          → given {B = Serving} a (λ l. pick (isBarred write (g .iomode) (l .summary .flags)) (refused 17) (accepted (record { grant = g; layout = l }))) ≡ refused n → n ≡ 17
+      second g (accepted l) p k = third g l (isBarred write (g .iomode) (l .summary .flags)) k
+      second g (refused j) p k = absurd (false≢true p)
+
+      first : (a : Answer Grant) → servingGrant write t x ≡ a
+          → given {B = Serving} a (λ g. given (layoutIn store (g .slot)) λ l. pick (isBarred write (g .iomode) (l .summary .flags)) (refused 17) (accepted (record { grant = g; layout = l }))) ≡ refused n
+          → n ≡ 17
+      first (accepted g) e k = let c = what-is-chosen t x write g e in second g (layoutIn store (g .slot)) (body-accepted (c .mode) x g (c .grant)) k
+      first (refused j) e k = sym (same-refusal {A = Serving} j n k) ∙ none-chosen t x write j e

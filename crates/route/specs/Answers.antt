@@ -1,34 +1,31 @@
--- What the answers of the route's functions say; why..: the refusal in one, and of one with a value 17.
+-- What the answers of the route's functions say.
 use Prim.Native.Nat.{ℕ}
-use mathlib.Core.List.{List}
-use mathlib.Core.Path.{_≡_}
 use Rattle.base.specs.Answer.{Answer, accepted, refused}
 use Rattle.base.specs.Refusals.{numberOf}
-use Rattle.layout.specs.Answers.{answerOfLayout}
-use Rattle.layout.specs.Layouts.{Layout}
-use Rattle.layout.specs.declared.body.LayoutAnswer.{LayoutAnswer}
 use Rattle.route.specs.Routes as routes
 use Rattle.route.specs.declared.piece.Piece.{Piece}
 use Rattle.route.specs.declared.piece.Located.{Located}
 use Rattle.route.specs.declared.piece.Located.the-variants as located
-use Rattle.route.specs.declared.rights.ReadGrant.{ReadGrant}
-use Rattle.route.specs.declared.rights.ReadGrant.the-variants as grant
-use Rattle.route.specs.declared.rights.ServingAnswer.{ServingAnswer}
-use Rattle.route.specs.declared.rights.ServingAnswer.the-variants as serving
+use Rattle.route.specs.declared.request.Serving.{Serving}
+use Rattle.route.specs.declared.rights.Grant.{Grant}
+use Rattle.route.specs.declared.rights.GrantAnswer.{GrantAnswer}
+use Rattle.route.specs.declared.rights.GrantAnswer.the-variants as answer
 
-abbrev pub answerOfGrant : ReadGrant → Answer routes.Grant
-answerOfGrant (grant.Value g) = accepted (record { slot = g .slot .0; last = g .last })
-answerOfGrant (grant.Refused e) = refused (numberOf e)
+abbrev pub grantSaid : Grant → routes.Grant
+grantSaid g = record { iomode = g .iomode; slot = g .slot .0; last = g .last }
 
-abbrev pub answerOfServing : ServingAnswer → List ℕ → Answer routes.Serving
-answerOfServing (serving.Value m g s) starts =
-    accepted (record { iomode = m; grant = record { slot = g .slot .0; last = g .last }; layout = record { summary = s; starts = starts } })
-answerOfServing (serving.Refused e) starts = refused (numberOf e)
+abbrev pub answerOfGrant : GrantAnswer → Answer routes.Grant
+answerOfGrant (answer.Value g) = accepted (grantSaid g)
+answerOfGrant answer.Missing = refused 17
+
+-- the slot whose body is to be read: the grant's, and 0 where there is none
+abbrev pub slotAsked : Answer routes.Grant → ℕ
+slotAsked (accepted g) = g .slot
+slotAsked (refused n) = 0
+
+abbrev pub servingOf : Serving → routes.Serving
+servingOf v = record { grant = grantSaid (v .grant); layout = record { summary = v .summary; starts = v .starts } }
 
 abbrev pub answerOfLocated : Located → Answer Piece
 answerOfLocated (located.At p) = accepted p
 answerOfLocated (located.Refused e) = refused (numberOf e)
-
--- what is known of the layout body in a slot before it is looked at: what it reads as, or nothing, where the answer is a refusal
-abbrev pub Known : List ℕ → ℕ → LayoutAnswer → List ℕ → Type 0
-Known store slot answer starts = (l : Layout) → answerOfLayout answer starts ≡ accepted l → routes.layoutIn store slot ≡ accepted l

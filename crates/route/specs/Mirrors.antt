@@ -1,21 +1,15 @@
 -- Which mirrors an I/O names.
-use Prim.Native.Nat.{ℕ, zero, suc, _+_, _-_, _*_, _^_}
+use Prim.Native.Nat.{ℕ, _+_, _-_, _*_, _^_}
 use mathlib.Core.List.{List}
 use lib.ListN.{getD}
-use lib.Dec.{ltb}
-use Rattle.base.specs.Answer.{pick}
+use Rattle.base.specs.Best.{best}
 use Rattle.numbers.specs.Numbers.{beAt}
 
 -- the efficiency of mirror m's server of a stripe, which stands 16 bytes behind the server's start
 unfoldable pub efficiencyOf : List ℕ → List ℕ → ℕ → ℕ → ℕ
 efficiencyOf body starts stripe m = beAt 4 body (getD starts (m * 16 + stripe) 0 + 16)
 
--- "the highest efficiency, lowest number on a tie": among mirror 0 and the n after it
-unfoldable pub best : (ℕ → ℕ) → ℕ → ℕ
-best efficiency zero = 0
-best efficiency (suc n) = pick (ltb (efficiency (best efficiency n)) (efficiency (suc n))) (suc n) (best efficiency n)
-
--- the mirror that is picked by the servers of one stripe
+-- "the highest efficiency, lowest number on a tie", by the servers of one stripe
 unfoldable pub bestMirror : List ℕ → List ℕ → ℕ → ℕ → ℕ
 bestMirror body starts mirrors stripe = best (efficiencyOf body starts stripe) (mirrors - 1)
 

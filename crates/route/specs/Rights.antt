@@ -8,7 +8,7 @@ use Rattle.base.specs.declared.iomode.Iomode.the-variants.{Read, ReadWrite}
 use Rattle.layout.specs.Layouts.{layoutBody}
 use Rattle.store.specs.Store.{Body, bodyIn, slotAt}
 use Rattle.reference.specs.Model.{ByteRight, none, granted, recalled}
-use Rattle.route.specs.Routes.{noReads}
+use Rattle.route.specs.Routes.{noReads, orElse}
 use Rattle.route.specs.declared.piece.Piece.{Piece}
 
 -- the iomode and the layout body that serve
@@ -28,11 +28,6 @@ readsByRw rw =
     given (byGrant ReadWrite rw) λ v.
     given (layoutBody (v .body)) λ l.
     pick (noReads (l .summary .flags)) (refused 17) (accepted v)
-
--- the first, where it is not refused; else the second
-abbrev pub orElse : {A : Type 0} → Answer A → Answer A → Answer A
-orElse (accepted a) next = accepted a
-orElse (refused n) next = next
 
 -- "A write needs RW granted. A read needs READ granted, or RW granted under a body without flag 4; where both serve at its first byte, READ is used."
 -- read, rw: the byte's rights in the two iomodes

@@ -7,7 +7,7 @@ use Rattle.base.specs.Answer.{Answer, accepted, refused, given, pick}
 use Rattle.base.specs.Bits.{bit}
 use Rattle.base.specs.Ranges.{requestLast}
 use Rattle.base.specs.declared.iomode.Iomode.{Iomode}
-use Rattle.base.specs.declared.iomode.Iomode.the-variants.{Read, ReadWrite}
+use Rattle.base.specs.declared.iomode.Iomode.the-variants.{Read, ReadWrite, Any}
 use Rattle.layout.specs.Layouts.{Layout, layoutBody}
 use Rattle.segments.specs.declared.Right.{Right}
 use Rattle.segments.specs.declared.Right.the-variants.{None, Granted, Recalled}
@@ -22,24 +22,41 @@ use Rattle.route.specs.declared.piece.Piece.{Piece}
 
 -- ---- the right at a byte
 
--- a granted segment, as far as an I/O is concerned: the slot of its body and its last byte
+-- the iomode that an answer names; it is never ANY
+abbrev pub iomodeFor : Mode → Iomode
+iomodeFor READ = Read
+iomodeFor RW = ReadWrite
+
+-- a granted segment, as far as an I/O is concerned: its iomode, the slot of its body and its last byte
 pub record Grant : Type 0 where
+  pub iomode : Iomode
   pub slot : ℕ
   pub last : ℕ
 
 -- 17: "the first byte of an I/O request lacks the right": recalled bytes serve no I/O
-abbrev pub grantOf : Right → ℕ → Answer Grant
-grantOf None last = refused 17
-grantOf (Granted s) last = accepted (record { slot = s .0; last = last })
-grantOf (Recalled s) last = refused 17
+abbrev pub grantOf : Iomode → Right → ℕ → Answer Grant
+grantOf iomode None last = refused 17
+grantOf iomode (Granted s) last = accepted (record { iomode = iomode; slot = s .0; last = last })
+grantOf iomode (Recalled s) last = refused 17
 
-unfoldable pub grantAt : List Segment → ℕ → Answer Grant
-grantAt [] x = refused 17
-grantAt (s ∷ l) x = pick (within (s .first) (s .last) x) (grantOf (s .right) (s .last)) (grantAt l x)
+unfoldable pub grantIn : Iomode → List Segment → ℕ → Answer Grant
+grantIn iomode [] x = refused 17
+grantIn iomode (s ∷ l) x = pick (within (s .first) (s .last) x) (grantOf iomode (s .right) (s .last)) (grantIn iomode l x)
 
--- the layout body in a slot
-unfoldable pub layoutIn : List ℕ → ℕ → Answer Layout
-layoutIn store slot = layoutBody (bodyIn (slotAt store slot))
+abbrev pub grantAt : Table → Mode → ℕ → Answer Grant
+grantAt t m x = grantIn (iomodeFor m) (listIn t m) x
+
+-- ---- what serves
+
+-- the first, where it is not refused; else the second
+abbrev pub orElse : {A : Type 0} → Answer A → Answer A → Answer A
+orElse (accepted a) next = accepted a
+orElse (refused n) next = next
+
+-- "A write needs RW granted. A read needs READ granted, or RW granted ..; where both serve at its first byte, READ is used."
+abbrev pub servingGrant : Bool → Table → ℕ → Answer Grant
+servingGrant true t x = grantAt t RW x
+servingGrant false t x = orElse (grantAt t READ x) (grantAt t RW x)
 
 -- flag 4, the bit of that value: "no reads on a read-write layout"; flag 8: "write one mirror"
 abbrev pub noReads : ℕ → Bool
@@ -48,40 +65,27 @@ noReads flags = bit 4 flags
 abbrev pub oneMirror : ℕ → Bool
 oneMirror flags = bit 8 flags
 
--- ---- what serves
+-- "A read needs .. RW granted under a body without flag 4": whether the flags of its body keep a grant from serving
+abbrev pub isBarred : Bool → Iomode → ℕ → Bool
+isBarred true iomode flags = false
+isBarred false Read flags = false
+isBarred false ReadWrite flags = noReads flags
+isBarred false Any flags = false
 
--- the iomode that an answer names; it is never ANY
-abbrev pub iomodeFor : Mode → Iomode
-iomodeFor READ = Read
-iomodeFor RW = ReadWrite
+-- the layout body in a slot
+unfoldable pub layoutIn : List ℕ → ℕ → Answer Layout
+layoutIn store slot = layoutBody (bodyIn (slotAt store slot))
 
--- the iomode that serves a request, with the grant and the layout under which it does
+-- the grant that serves a request, and the layout under which it does
 pub record Serving : Type 0 where
-  pub iomode : Iomode
   pub grant : Grant
   pub layout : Layout
 
-unfoldable pub servedBy : Iomode → List ℕ → Grant → Answer Serving
-servedBy iomode store g = given (layoutIn store (g .slot)) λ l. accepted (record { iomode = iomode; grant = g; layout = l })
-
--- "A write needs RW granted."
-unfoldable pub writeServed : Table → List ℕ → ℕ → Answer Serving
-writeServed t store x = given (grantAt (listIn t RW) x) λ g. servedBy ReadWrite store g
-
--- ".. or RW granted under a body without flag 4"
-unfoldable pub readFromRw : Table → List ℕ → ℕ → Answer Serving
-readFromRw t store x =
-    given (writeServed t store x) λ v.
-    pick (noReads (v .layout .summary .flags)) (refused 17) (accepted v)
-
--- "A read needs READ granted, or ..; where both serve at its first byte, READ is used."
-abbrev pub readServed : Answer Grant → Table → List ℕ → ℕ → Answer Serving
-readServed (accepted g) t store x = servedBy Read store g
-readServed (refused n) t store x = readFromRw t store x
-
-abbrev pub served : Bool → Table → List ℕ → ℕ → Answer Serving
-served true t store x = writeServed t store x
-served false t store x = readServed (grantAt (listIn t READ) x) t store x
+unfoldable pub served : Bool → Table → List ℕ → ℕ → Answer Serving
+served write t store x =
+    given (servingGrant write t x) λ g.
+    given (layoutIn store (g .slot)) λ l.
+    pick (isBarred write (g .iomode) (l .summary .flags)) (refused 17) (accepted (record { grant = g; layout = l }))
 
 -- ---- the answer
 
@@ -96,7 +100,7 @@ mirrorsNamed write body l =
 -- "The answer gives iomode, slot number, stripe number, offset, piece length and mirrors." "The offset on the server is the file offset."
 unfoldable pub pieceAt : Bool → List ℕ → ℕ → ℕ → Serving → Piece
 pieceAt write store offset len v = record {
-  iomode = v .iomode;
+  iomode = v .grant .iomode;
   slot = record { 0 = v .grant .slot };
   stripe = record { 0 = stripeOf (v .layout .summary .unit) (v .layout .summary .servers) offset };
   offset = offset;

@@ -3,53 +3,40 @@ use crate::mirrors::mirrors_named;
 use crate::piece::Located;
 use crate::piece::Piece;
 use crate::rights::Grant;
-use crate::rights::ServingAnswer;
-use crate::rights::find_serving;
-use crate::rights::likely_slot;
+use crate::rights::GrantAnswer;
+use crate::rights::is_barred;
+use crate::rights::serving_grant;
+use crate::rights::slot_asked;
 use crate::stripes::piece_length;
 use crate::stripes::stripe_of;
-use base::Fault;
-use base::Iomode;
 use base::Last;
 use base::Refusal;
+use layout::LayoutAnswer;
 use layout::Summary;
 use segments::Table;
 ghost use mathlib.Core.Path.{_≡_};
-ghost use mathlib.Core.List.{[]};
-ghost use Rattle.base.specs.Answer.{refusalIn};
-ghost use Rattle.base.specs.Refusals.{numberOf};
 ghost use Prim.Native.Nat.{_≤_, _<_};
-ghost use Rattle.route.specs.Answers.{answerOfLocated, answerOfServing};
+ghost use Rattle.base.specs.Limits.{mostMirrors};
+ghost use Rattle.route.specs.Answers.{answerOfLocated, servingOf};
 ghost use Rattle.route.specs.Routes.{pieceAt, routed};
 
-fn why_serving(r: ServingAnswer) -> Refusal
-    ensures { λ e. ⌜ numberOf e ≡ refusalIn (answerOfServing r []) ⌝ }
-{
-    match r {
-        ServingAnswer::Refused(e) => e,
-        ServingAnswer::Value(_, _, _) => Refusal::Fault(Fault::BytesRunOut),
-    }
+// What serves a request: a grant, and the layout body in its slot.
+pub struct Serving {
+    pub grant: Grant,
+    pub summary: Summary,
+    pub starts: [u16; base::MOST_STARTS],
 }
 
 // The answer to a request that is served.
-fn piece_at(
-    write: bool,
-    store: &[u8],
-    offset: u64,
-    len: u64,
-    iomode: Iomode,
-    g: Grant,
-    summary: Summary,
-    starts: [u16; 128],
-) -> Piece
-    requires { ⌜ (1 ≤ len) × (offset ≤ g .last) × (1 ≤ summary .mirrors) × (summary .mirrors ≤ 8) × (1 < summary .servers → 0 < summary .unit) ⌝ }
-    ensures { λ r. ⌜ r ≡ pieceAt write (now (store .entry)) offset len
-        (record {
-          iomode = iomode;
-          grant = record { slot = g .slot .0; last = g .last };
-          layout = record { summary = summary; starts = starts };
-        }) ⌝ }
+fn piece_at(write: bool, store: &[u8], offset: u64, len: u64, v: Serving) -> Piece
+    requires { ⌜ (1 ≤ len) × (offset ≤ v .grant .last) × (1 ≤ v .summary .mirrors) × (v .summary .mirrors ≤ mostMirrors)
+        × (1 < v .summary .servers → 0 < v .summary .unit) ⌝ }
+    ensures { λ r. ⌜ r ≡ pieceAt write (now (store .entry)) offset len (servingOf v) ⌝ }
 {
+    let g = v.grant;
+    let summary = v.summary;
+    let starts = v.starts;
+    let iomode = g.iomode;
     let slot = g.slot;
     let stripe = stripe_of(summary.unit, summary.servers, offset);
     let piece = piece_length(summary.unit, summary.servers, g.last, offset, len);
@@ -69,12 +56,12 @@ fn piece_at(
     }
 }
 
-// "Order: 20, 5, 17."
+// "Order: 20, 5, 17." In a sound store the body under which a byte is granted is read, never refused.
 pub fn locate(t: Table, store: &[u8], write: bool, offset: u64, len: u64) -> Located
     ensures { λ r. ⌜ answerOfLocated r ≡ routed write t (now (store .entry)) offset len ⌝ }
 {
-    let wanted = likely_slot(write, t, offset);
-    let j = soundness::judge_and_read(t, store, wanted);
+    let h = serving_grant(write, t, offset);
+    let j = soundness::judge_and_read(t, store, slot_asked(h));
     if !j.sound {
         return Located::Refused(Refusal::Unsound);
     }
@@ -82,12 +69,23 @@ pub fn locate(t: Table, store: &[u8], write: bool, offset: u64, len: u64) -> Loc
     let Last::At(_) = e else {
         return Located::Refused(Refusal::Fault(base::why_last(e)));
     };
-    let known = j.read;
-    let v = find_serving(write, t, store, offset, wanted, known);
-    let a = v.answer;
-    let ServingAnswer::Value(iomode, g, summary) = a else {
-        return Located::Refused(why_serving(a));
+    let GrantAnswer::Value(grant) = h else {
+        return Located::Refused(Refusal::RightMissing);
     };
-    let starts = v.starts;
-    Located::At(piece_at(write, store, offset, len, iomode, g, summary, starts))
+    let read = j.read;
+    let a = read.answer;
+    let LayoutAnswer::Value(summary) = a else {
+        return Located::Refused(Refusal::RightMissing);
+    };
+    let iomode = grant.iomode;
+    if is_barred(write, iomode, summary.flags) {
+        return Located::Refused(Refusal::RightMissing);
+    }
+    let starts = read.starts;
+    let v = Serving {
+        grant,
+        summary,
+        starts,
+    };
+    Located::At(piece_at(write, store, offset, len, v))
 }

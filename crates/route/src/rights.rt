@@ -1,53 +1,35 @@
-// What serves a request: the iomode, the granted segment at its first byte, and the layout body under which that is held.
-use base::Fault;
+// What serves a request: the granted segment at its first byte.
 use base::Iomode;
-use base::Refusal;
 use base::SlotNumber;
-use layout::LayoutAnswer;
-use layout::LayoutRead;
-use layout::Summary;
 use segments::Right;
 use segments::Segment;
 use segments::Segments;
 use segments::Table;
 ghost use mathlib.Core.Path.{_≡_};
-ghost use Rattle.base.specs.Answer.{refusalIn};
-ghost use Rattle.base.specs.Refusals.{numberOf};
-ghost use lib.ListN.{replicate};
 ghost use Rattle.segments.specs.Segments.{listOf, within};
-ghost use Rattle.layout.specs.Answers.{answerOfLayout};
-ghost use Rattle.route.specs.Answers.{Known, answerOfGrant, answerOfServing};
-ghost use Rattle.route.specs.Routes.{grantAt, grantOf, layoutIn, readFromRw, served, servedBy, writeServed};
+ghost use Rattle.route.specs.Answers.{answerOfGrant, slotAsked};
+ghost use Rattle.route.specs.Routes.{grantIn, grantOf, isBarred, servingGrant};
 
-// The slot of a granted segment's body, and its last byte.
+// A granted segment: its iomode, the slot of its body, and its last byte.
 pub struct Grant {
+    pub iomode: Iomode,
     pub slot: SlotNumber,
     pub last: u64,
 }
 
-pub enum ReadGrant {
+// Missing is 17.
+pub enum GrantAnswer {
     Value(Grant),
-    Refused(Refusal),
+    Missing,
 }
 
-pub enum ServingAnswer {
-    Value(Iomode, Grant, Summary),
-    Refused(Refusal),
-}
-
-// The starts are the layout body's; all 0 after a refusal.
-pub struct Serving {
-    pub answer: ServingAnswer,
-    pub starts: [u16; 128],
-}
-
-fn grant_of(right: Right, last: u64) -> ReadGrant
-    ensures { λ r. ⌜ answerOfGrant r ≡ grantOf right last ⌝ }
+fn grant_of(iomode: Iomode, right: Right, last: u64) -> GrantAnswer
+    ensures { λ r. ⌜ answerOfGrant r ≡ grantOf iomode right last ⌝ }
 {
     match right {
-        Right::None => ReadGrant::Refused(Refusal::RightMissing),
-        Right::Granted(slot) => ReadGrant::Value(Grant { slot, last }),
-        Right::Recalled(_) => ReadGrant::Refused(Refusal::RightMissing),
+        Right::None => GrantAnswer::Missing,
+        Right::Granted(slot) => GrantAnswer::Value(Grant { iomode, slot, last }),
+        Right::Recalled(_) => GrantAnswer::Missing,
     }
 }
 
@@ -60,143 +42,60 @@ fn holds_byte(s: Segment, x: u64) -> bool
     x <= s.last
 }
 
-// The granted segment at a byte.
-fn grant_at(g: Segments, x: u64) -> ReadGrant
-    ensures { λ r. ⌜ answerOfGrant r ≡ grantAt (listOf g) x ⌝ }
+// The granted segment at a byte, among those of an iomode.
+fn grant_in(iomode: Iomode, g: Segments, x: u64) -> GrantAnswer
+    ensures { λ r. ⌜ answerOfGrant r ≡ grantIn iomode (listOf g) x ⌝ }
 {
     let mut i: usize = 0;
-    while i < 32 {
+    while i < base::MOST_SEGMENTS {
         if g.count <= i {
-            return ReadGrant::Refused(Refusal::RightMissing);
+            return GrantAnswer::Missing;
         }
         let s = g.items[i];
         if holds_byte(s, x) {
             let right = s.right;
-            return grant_of(right, s.last);
+            return grant_of(iomode, right, s.last);
         }
         i += 1;
     }
-    ReadGrant::Refused(Refusal::RightMissing)
+    GrantAnswer::Missing
 }
 
-fn refused(e: Refusal) -> Serving
-    ensures { λ r. ⌜ r ≡ record { answer = ServingAnswer.Refused e; starts = replicate 128 0 } ⌝ }
+// "A write needs RW granted. A read needs READ granted, or RW granted ..; where both serve at its first byte, READ is used."
+pub(crate) fn serving_grant(write: bool, t: Table, x: u64) -> GrantAnswer
+    ensures { λ r. ⌜ answerOfGrant r ≡ servingGrant write t x ⌝ }
 {
-    Serving {
-        answer: ServingAnswer::Refused(e),
-        starts: [0u16; 128],
-    }
-}
-
-fn why_grant(r: ReadGrant) -> Refusal
-    ensures { λ e. ⌜ numberOf e ≡ refusalIn (answerOfGrant r) ⌝ }
-{
-    match r {
-        ReadGrant::Refused(e) => e,
-        ReadGrant::Value(_) => Refusal::Fault(Fault::BytesRunOut),
-    }
-}
-
-// The layout body in a slot. `known` is what the one in the wanted slot reads as, or refused.
-fn layout_of(store: &[u8], slot: SlotNumber, wanted: SlotNumber, known: LayoutRead) -> LayoutRead
-    requires { ⌜ Known (now store) (wanted .0) (known .answer) (known .starts) ⌝ }
-    ensures { λ r. ⌜ answerOfLayout (r .answer) (r .starts) ≡ layoutIn (now (store .entry)) (slot .0) ⌝ }
-{
-    if slot.0 == wanted.0 {
-        let a = known.answer;
-        if let LayoutAnswer::Value(_) = a {
-            return known;
+    if !write {
+        let read = t.read;
+        let h = grant_in(Iomode::Read, read, x);
+        if let GrantAnswer::Value(_) = h {
+            return h;
         }
     }
-    layout::read_layout(store::slot_body(store::slot_bytes(store, slot)))
-}
-
-fn served_by(
-    iomode: Iomode,
-    store: &[u8],
-    g: Grant,
-    wanted: SlotNumber,
-    known: LayoutRead,
-) -> Serving
-    requires { ⌜ Known (now store) (wanted .0) (known .answer) (known .starts) ⌝ }
-    ensures { λ r. ⌜ answerOfServing (r .answer) (r .starts) ≡ servedBy iomode (now (store .entry)) (record { slot = g .slot .0; last = g .last }) ⌝ }
-{
-    let l = layout_of(store, g.slot, wanted, known);
-    let a = l.answer;
-    let LayoutAnswer::Value(summary) = a else {
-        return refused(Refusal::Fault(layout::why_layout(a)));
-    };
-    let starts = l.starts;
-    Serving {
-        answer: ServingAnswer::Value(iomode, g, summary),
-        starts,
-    }
-}
-
-// "A write needs RW granted."
-fn write_served(t: Table, store: &[u8], x: u64, wanted: SlotNumber, known: LayoutRead) -> Serving
-    requires { ⌜ Known (now store) (wanted .0) (known .answer) (known .starts) ⌝ }
-    ensures { λ r. ⌜ answerOfServing (r .answer) (r .starts) ≡ writeServed t (now (store .entry)) x ⌝ }
-{
     let rw = t.rw;
-    let h = grant_at(rw, x);
-    let ReadGrant::Value(g) = h else {
-        return refused(why_grant(h));
-    };
-    served_by(Iomode::ReadWrite, store, g, wanted, known)
+    grant_in(Iomode::ReadWrite, rw, x)
+}
+
+// The slot whose body is to be read: the grant's, and 0 where there is none.
+pub(crate) fn slot_asked(h: GrantAnswer) -> SlotNumber
+    ensures { λ r. ⌜ r .0 ≡ slotAsked (answerOfGrant h) ⌝ }
+{
+    match h {
+        GrantAnswer::Value(g) => g.slot,
+        GrantAnswer::Missing => SlotNumber(0),
+    }
 }
 
 // ".. or RW granted under a body without flag 4"
-fn read_from_rw(t: Table, store: &[u8], x: u64, wanted: SlotNumber, known: LayoutRead) -> Serving
-    requires { ⌜ Known (now store) (wanted .0) (known .answer) (known .starts) ⌝ }
-    ensures { λ r. ⌜ answerOfServing (r .answer) (r .starts) ≡ readFromRw t (now (store .entry)) x ⌝ }
-{
-    let v = write_served(t, store, x, wanted, known);
-    let a = v.answer;
-    let ServingAnswer::Value(_, _, summary) = a else {
-        return v;
-    };
-    if summary.flags / 4 % 2 == 1 {
-        return refused(Refusal::RightMissing);
-    }
-    v
-}
-
-pub(crate) fn find_serving(
-    write: bool,
-    t: Table,
-    store: &[u8],
-    x: u64,
-    wanted: SlotNumber,
-    known: LayoutRead,
-) -> Serving
-    requires { ⌜ Known (now store) (wanted .0) (known .answer) (known .starts) ⌝ }
-    ensures { λ r. ⌜ answerOfServing (r .answer) (r .starts) ≡ served write t (now (store .entry)) x ⌝ }
+pub(crate) fn is_barred(write: bool, iomode: Iomode, flags: u32) -> bool
+    ensures { λ r. ⌜ r ≡ isBarred write iomode flags ⌝ }
 {
     if write {
-        return write_served(t, store, x, wanted, known);
+        return false;
     }
-    let read = t.read;
-    let h = grant_at(read, x);
-    let ReadGrant::Value(g) = h else {
-        return read_from_rw(t, store, x, wanted, known);
-    };
-    served_by(Iomode::Read, store, g, wanted, known)
-}
-
-// The slot whose layout body is likely to serve: nothing depends on it but how often that body is read.
-pub(crate) fn likely_slot(write: bool, t: Table, x: u64) -> SlotNumber {
-    if !write {
-        let list = t.read;
-        let h = grant_at(list, x);
-        if let ReadGrant::Value(g) = h {
-            return g.slot;
-        }
-    }
-    let list = t.rw;
-    let h = grant_at(list, x);
-    match h {
-        ReadGrant::Value(g) => g.slot,
-        ReadGrant::Refused(_) => SlotNumber(0),
+    match iomode {
+        Iomode::Read => false,
+        Iomode::ReadWrite => flags / 4 % 2 == 1,
+        Iomode::Any => false,
     }
 }

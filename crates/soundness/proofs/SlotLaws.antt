@@ -8,7 +8,7 @@ use native.Mathlib.Omega.{arith}
 use borrow.Author.Tests.{eqb-false, eqb-true, le-ltb, lt-ltb, ltb-false, ltb-true}
 use lib.Dec.{eqb, ltb}
 use lib.ListN.{replicate}
-use Rattle.base.specs.Answer.{Answer, refused, pick}
+use Rattle.base.specs.Answer.{Answer, pick}
 use Rattle.layout.specs.Answers.{startsIn}
 use Rattle.layout.specs.Layouts.{Layout, layoutBody}
 use Rattle.numbers.specs.Numbers.{sameBytes}
@@ -17,7 +17,7 @@ use Rattle.segments.specs.Segments.{isNamed}
 use Rattle.store.specs.Store.{Body, Slot, empty, holds, bodyIn, slotAt}
 use Rattle.reference.specs.Model.{inSlots}
 use Rattle.reference.specs.Sound.{noTwoAlike, slotSound, slotsFrom, slotsSound, sound}
-use Rattle.soundness.specs.Judgements.{layoutJudged, layoutNamed}
+use Rattle.soundness.specs.Judgements.{layoutJudged, layoutNamed, notRead}
 
 pub slots-next : (t : Table) (store : List ℕ) (n i : ℕ) → i < n
     → slotsSound t store (n - i) i ≡ (slotSound (isNamed t i) (slotAt store i) && slotsSound t store (n - (i + 1)) (i + 1))
@@ -81,12 +81,12 @@ module _ (t : Table) (store : List ℕ) (n i : ℕ) (h : i < n) where
   slot-fails e = rw (slots-next t store n i h, e)
 
 -- where nothing was read there are no starts
-pub none-started : (a : Answer Layout) → refused 1 ≡ a → replicate 128 0 ≡ startsIn a
+pub none-started : (a : Answer Layout) → notRead ≡ a → replicate 128 0 ≡ startsIn a
 unfolding startsIn
 none-started a e = ap startsIn e
 
 module _ (t : Table) (store : List ℕ) (w : ℕ) where
-  pub read-none : refused 1 ≡ layoutNamed t store w 0
+  pub read-none : notRead ≡ layoutNamed t store w 0
   unfolding layoutNamed pick
   read-none = rw (le-ltb w 0 (omega arith))
 
@@ -97,7 +97,7 @@ module _ (t : Table) (store : List ℕ) (w : ℕ) where
   module _ (i : ℕ) where
     pub read-elsewhere : (i ≡ w → ⊥) → layoutNamed t store w i ≡ layoutNamed t store w (i + 1)
     unfolding layoutNamed
-    read-elsewhere n = ap (λ (b : Bool). pick (b && isNamed t w) (layoutBody (bodyIn (slotAt store w))) (refused 1)) (go (ltb w i) refl)
+    read-elsewhere n = ap (λ (b : Bool). pick (b && isNamed t w) (layoutBody (bodyIn (slotAt store w))) notRead) (go (ltb w i) refl)
       where
         go : (b : Bool) → ltb w i ≡ b → ltb w i ≡ ltb w (i + 1)
         go true h = let k = ltb-true w i h in h ∙ sym (lt-ltb w (i + 1) (omega arith))
@@ -115,7 +115,7 @@ module _ (t : Table) (store : List ℕ) (w : ℕ) where
 
   -- ---- the whole judgement
 
-  pub judged-unsound : sound t store ≡ false → layoutJudged t store w ≡ refused 1
+  pub judged-unsound : sound t store ≡ false → layoutJudged t store w ≡ notRead
   unfolding layoutJudged pick
   judged-unsound e = rw e
 

@@ -6,6 +6,7 @@ use mathlib.Core.List.{List}
 use lib.Dec.{ltb}
 use lib.ListN.{replicate}
 use Rattle.base.specs.Answer.{Answer, refused, pick}
+use Rattle.base.specs.Limits.{slotCount}
 use Rattle.layout.specs.Layouts.{Layout, layoutBody}
 use Rattle.segments.specs.declared.Table.{Table}
 use Rattle.segments.specs.Segments.{isNamed}
@@ -17,10 +18,14 @@ use Rattle.reference.specs.Sound.{sound}
 unfoldable pub namedJudged : Table → List ℕ → List Bool
 namedJudged t store = pick (sound t store) (namedSlots t) (replicate 8 false)
 
--- the layout body in a slot, where it is one of the first n and a segment names it; any other is as one of no bytes: 1
-unfoldable pub layoutNamed : Table → List ℕ → ℕ → ℕ → Answer Layout
-layoutNamed t store slot n = pick (ltb slot n && isNamed t slot) (layoutBody (bodyIn (slotAt store slot))) (refused 1)
+-- what is not read is refused with 1, as no bytes at all are
+abbrev pub notRead : Answer Layout
+notRead = refused 1
 
--- the same of any table, none of whose bodies is read where it is unsound
+-- the layout body in a slot, where it is one of the first n and a segment names it
+unfoldable pub layoutNamed : Table → List ℕ → ℕ → ℕ → Answer Layout
+layoutNamed t store slot n = pick (ltb slot n && isNamed t slot) (layoutBody (bodyIn (slotAt store slot))) notRead
+
+-- the layout body in a slot that a segment names, where table and store are sound
 unfoldable pub layoutJudged : Table → List ℕ → ℕ → Answer Layout
-layoutJudged t store slot = pick (sound t store) (layoutNamed t store slot 8) (refused 1)
+layoutJudged t store slot = pick (sound t store) (layoutNamed t store slot slotCount) notRead

@@ -18,11 +18,11 @@ pub struct Soundness {
     pub sound: bool,
 }
 
-// The store's length is tested first, since the slots are looked at by their places.
-pub fn judge_and_read(t: Table, store: &[u8], wanted: SlotNumber) -> Judged
+// The verdict, and what the layout body in this slot reads as. The store's length is tested first, since the slots are looked at by their places.
+pub fn judge_and_read(t: Table, store: &[u8], slot: SlotNumber) -> Judged
     ensures { λ r. ⌜ (r .sound ≡ sound t (now (store .entry)))
-        × (answerOfLayout (r .read .answer) (r .read .starts) ≡ layoutJudged t (now (store .entry)) (wanted .0))
-        × (r .read .starts ≡ startsIn (layoutJudged t (now (store .entry)) (wanted .0)))
+        × (answerOfLayout (r .read .answer) (r .read .starts) ≡ layoutJudged t (now (store .entry)) (slot .0))
+        × (r .read .starts ≡ startsIn (layoutJudged t (now (store .entry)) (slot .0)))
         × (r .named ≡ namedJudged t (now (store .entry))) ⌝ }
 {
     if store.len() != 32768 {
@@ -32,7 +32,7 @@ pub fn judge_and_read(t: Table, store: &[u8], wanted: SlotNumber) -> Judged
         return slots::unsound();
     }
     let named = lookup::named_slots(t);
-    let j = slots::judge_slots(named, store, wanted);
+    let j = slots::judge_slots(named, store, slot);
     if !j.sound {
         return slots::unsound();
     }

@@ -8,18 +8,17 @@ ghost use mathlib.Core.Bool.{true, false};
 ghost use mathlib.Core.List.{List};
 ghost use Prim.Native.Nat.{ℕ};
 ghost use lib.ListN.{replicate};
-ghost use Rattle.base.specs.Answer.{refused};
 ghost use Rattle.layout.specs.Answers.{answerOfLayout, startsIn};
 ghost use Rattle.layout.specs.Layouts.{layoutBody};
 ghost use Rattle.segments.specs.declared.Table.{Table};
 ghost use Rattle.lookup.specs.Lookup.{namedSlots};
 ghost use Rattle.store.specs.Store.{bodyIn};
 ghost use Rattle.reference.specs.Sound.{isAccepted, slotSound, slotsSound};
-ghost use Rattle.soundness.specs.Judgements.{layoutNamed};
+ghost use Rattle.soundness.specs.Judgements.{layoutNamed, notRead};
 
 // `read` is what the layout body in one slot reads as, the one that was asked for: a lookup would read it again. Where
-// nothing was read, it is refused as no bytes are, and its starts are 0. `named` says of each slot whether a segment names
-// it; of an unsound table none.
+// nothing was read, it is refused as no bytes at all are, and its starts are 0. `named` says of each slot whether a
+// segment names it; of an unsound table none.
 pub struct Judged {
     pub read: LayoutRead,
     pub named: [bool; 8],
@@ -28,7 +27,7 @@ pub struct Judged {
 
 pub(crate) fn unsound() -> Judged
     ensures { λ r. ⌜ (r .sound ≡ false)
-        × (answerOfLayout (r .read .answer) (r .read .starts) ≡ refused 1)
+        × (answerOfLayout (r .read .answer) (r .read .starts) ≡ notRead)
         × (r .read .starts ≡ replicate 128 0)
         × (r .named ≡ replicate 8 false) ⌝ }
 {

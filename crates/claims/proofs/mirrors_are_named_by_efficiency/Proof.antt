@@ -3,9 +3,11 @@ use Prim.Native.Nat.{_-_}
 use native.Mathlib.Omega.{arith}
 use mathlib.Core.Path.{_∙_}
 use Rattle.layout.proofs.LayoutLaws.{accepted-limits}
-use Rattle.route.specs.Mirrors.{best, bestMirror, efficiencyOf}
+use Rattle.base.specs.Best.{best}
+use Rattle.base.proofs.BestLaws.{best-is-highest, best-is-lowest, best-is-one}
+use Rattle.route.specs.Mirrors.{bestMirror, efficiencyOf}
 use Rattle.route.specs.Routes.{layoutIn}
-use Rattle.route.proofs.MirrorLaws.{all-named, best-is-highest, best-is-lowest, best-is-one, one-named}
+use Rattle.route.proofs.MirrorLaws.{all-named, one-named}
 use Rattle.route.proofs.PieceLaws.{its-mirrors}
 use Rattle.store.specs.Store.{bodyIn, slotAt}
 use Rattle.claims.proofs.mirrors_are_named_by_efficiency.Statement.{statement}

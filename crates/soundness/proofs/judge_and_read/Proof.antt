@@ -21,7 +21,7 @@ unfolding sound namedJudged
 returns c =
     let a = c .before .before .before .args in
     let s : sound (a .t) (now (a .store)) ≡ false = rw (ne-eqb _ _ (c .before .if1 .taken), and-false) in
-    let j = sym (judged-unsound (a .t) (now (a .store)) (a .wanted .0) s) in
+    let j = sym (judged-unsound (a .t) (now (a .store)) (a .slot .0) s) in
     (c .unsound .ensures .0 ∙ sym s, c .unsound .ensures .1 ∙ j, c .unsound .ensures .2 ∙ none-started _ j, c .unsound .ensures .3 ∙ sym (pick-false _ (namedSlots (a .t)) _ s))
 
 lists-sound-requires : tie.Need-lists-sound-requires
@@ -35,7 +35,7 @@ unfolding sound namedJudged
 returns-2 c =
     let a = c .before .before .before .before .before .args in
     let s : sound (a .t) (now (a .store)) ≡ false = rw (sym (c .before .before .lists-sound .ensures) ∙ not-true _ (c .before .if2 .taken)) in
-    let j = sym (judged-unsound (a .t) (now (a .store)) (a .wanted .0) s) in
+    let j = sym (judged-unsound (a .t) (now (a .store)) (a .slot .0) s) in
     (c .unsound2 .ensures .0 ∙ sym s, c .unsound2 .ensures .1 ∙ j, c .unsound2 .ensures .2 ∙ none-started _ j, c .unsound2 .ensures .3 ∙ sym (pick-false _ (namedSlots (a .t)) _ s))
 
 named-slots-requires : tie.Need-named-slots-requires
@@ -52,7 +52,7 @@ unfolding sound namedJudged
 returns-3 c =
     let a = c .before .before .before .before .before .before .before .before .before .args in
     let s : sound (a .t) (now (a .store)) ≡ false = rw (sym (c .before .before .before .before .before .before .lists-sound .ensures) ∙ not-false _ (c .before .before .before .before .before .if2 .left), sym (c .before .before .before .judge-slots .ensures (a .t) (c .before .before .before .before .named-slots .ensures) .0) ∙ not-true _ (c .before .if3 .taken)) in
-    let j = sym (judged-unsound (a .t) (now (a .store)) (a .wanted .0) s) in
+    let j = sym (judged-unsound (a .t) (now (a .store)) (a .slot .0) s) in
     (c .unsound3 .ensures .0 ∙ sym s, c .unsound3 .ensures .1 ∙ j, c .unsound3 .ensures .2 ∙ none-started _ j, c .unsound3 .ensures .3 ∙ sym (pick-false _ (namedSlots (a .t)) _ s))
 
 no-two-alike-requires : tie.Need-no-two-alike-requires
@@ -66,7 +66,7 @@ unfolding sound namedJudged
 returns-4 c =
     let a = c .before .before .before .before .before .before .before .before .before .before .before .args in
     let s : sound (a .t) (now (a .store)) ≡ false = rw (sym (c .before .before .before .before .before .before .before .before .lists-sound .ensures) ∙ not-false _ (c .before .before .before .before .before .before .before .if2 .left), sym (c .before .before .before .before .before .judge-slots .ensures (a .t) (c .before .before .before .before .before .before .named-slots .ensures) .0) ∙ not-false _ (c .before .before .before .if3 .left), sym (c .before .before .no-two-alike .ensures (a .t) (c .before .before .before .before .before .before .named-slots .ensures)) ∙ not-true _ (c .before .if4 .taken)) in
-    let j = sym (judged-unsound (a .t) (now (a .store)) (a .wanted .0) s) in
+    let j = sym (judged-unsound (a .t) (now (a .store)) (a .slot .0) s) in
     (c .unsound4 .ensures .0 ∙ sym s, c .unsound4 .ensures .1 ∙ j, c .unsound4 .ensures .2 ∙ none-started _ j, c .unsound4 .ensures .3 ∙ sym (pick-false _ (namedSlots (a .t)) _ s))
 
 returns-5 : tie.Need-returns-5
@@ -75,7 +75,7 @@ returns-5 c =
     let a = c .before .before .before .before .before .before .before .before .before .before .args in
     let k = not-false _ (c .before .before .if3 .left) in
     let s : sound (a .t) (now (a .store)) ≡ true = rw (sym (c .before .before .before .before .before .before .before .lists-sound .ensures) ∙ not-false _ (c .before .before .before .before .before .before .if2 .left), sym (c .before .before .before .before .judge-slots .ensures (a .t) (c .before .before .before .before .before .named-slots .ensures) .0) ∙ k, sym (c .before .no-two-alike .ensures (a .t) (c .before .before .before .before .before .named-slots .ensures)) ∙ not-false _ (c .if4 .left), eq-eqb _ _ (c .before .before .before .before .before .before .before .before .if1 .left)) in
-    let j = sym (judged-sound (a .t) (now (a .store)) (a .wanted .0) s) in
+    let j = sym (judged-sound (a .t) (now (a .store)) (a .slot .0) s) in
     let r = c .before .before .before .before .judge-slots .ensures (a .t) (c .before .before .before .before .before .named-slots .ensures) .1 k in
     (k ∙ sym s, r .0 ∙ j, r .1 ∙ ap startsIn j, r .2 ∙ sym (pick-true _ (namedSlots (a .t)) _ s))
 

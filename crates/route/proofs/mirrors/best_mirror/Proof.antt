@@ -1,9 +1,8 @@
 -- `route::mirrors::best_mirror` meets its contract. The loop's invariant: best is picked among the mirrors below m. The measure is how many mirrors are
 -- left.
 use Prim.Native.Nat.{_-_, _≤_}
-use Rattle.route.proofs.MirrorLaws.{Picked, picked-all, picked-first, picked-next, picked-still}
-use Rattle.route.specs.Mirrors.{efficiencyOf}
-use denote.Ref.{now}
+use Rattle.base.proofs.BestLaws.{Picked, picked-first, picked-last, picked-next, picked-still}
+use Rattle.route.specs.Mirrors.{bestMirror, efficiencyOf}
 use mathlib.Core.Logic.{⊎-elim}
 use native.Mathlib.Omega.{arith}
 use Rattle.route.proofs.mirrors.best_mirror.Statement.{statement}
@@ -41,7 +40,8 @@ loop-again c =
     )
 
 returns : tie.Need-returns Inv-loop μ-loop
-returns c = picked-all (now (c .before .before .before .before .args .body)) (c .before .before .before .before .args .starts) (c .before .before .before .before .args .stripe .0) (c .before .before .before .before .args .mirrors) (c .before .loop .m) _ (c .before .loop .highest) (c .before .loop .inv .1) (omega arith)
+unfolding bestMirror
+returns c = picked-last _ (c .before .loop .m) (c .before .before .before .before .args .mirrors) _ (c .before .loop .highest) (c .before .loop .inv .1) (omega arith)
 
 pub best-mirror-spec : {M : Type 1} → statement M
 best-mirror-spec =

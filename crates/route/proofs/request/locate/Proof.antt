@@ -1,27 +1,30 @@
 -- `route::request::locate` meets its contract: soundness, then the range, then what serves.
 use Rattle.base.specs.Ranges.{answerOfLast}
-use Rattle.route.proofs.RouteLaws.{is-served, is-unsound, judged-known, not-served, range-refused}
-use Rattle.route.proofs.ServedLaws.{served-limits}
-use Rattle.route.specs.Answers.{answerOfServing}
-use Rattle.route.specs.declared.rights.ServingAnswer.{ServingAnswer}
-use Rattle.xdr.proofs.Steps.{came, handed-answer, handed-answer-from}
+use Rattle.layout.specs.Answers.{answerOfLayout}
+use Rattle.layout.specs.declared.body.LayoutAnswer.{LayoutAnswer}
+use Rattle.route.proofs.RouteLaws.{barred, is-served, is-unsound, not-barred, not-granted, not-served, range-refused}
+use Rattle.route.proofs.ServedLaws.{body-asked, body-not-refused, served-limits}
+use Rattle.route.specs.Answers.{answerOfGrant, slotAsked}
+use Rattle.xdr.proofs.Steps.{came, handed-answer}
 use borrow.Author.Needs.{needs}
 use borrow.Author.Tests.{not-false, not-true}
 use denote.Ref.{now}
-use mathlib.Core.List.{[]}
-use mathlib.Core.Path.{refl, sym, _∙_}
+use mathlib.Core.Path.{refl, sym, ap, _∙_}
 use Rattle.route.proofs.request.locate.Statement.{statement}
 use Rattle.route.proofs.request.locate.Tie as tie
 
-likely-slot-requires : tie.Need-likely-slot-requires
-likely-slot-requires c κs = search needs
+serving-grant-requires : tie.Need-serving-grant-requires
+serving-grant-requires c κs = search needs
+
+slot-asked-requires : tie.Need-slot-asked-requires
+slot-asked-requires c κs = search needs
 
 judge-and-read-requires : tie.Need-judge-and-read-requires
 judge-and-read-requires c κs = search needs
 
 returns : tie.Need-returns
 returns c =
-    let a = c .before .before .before .before .before .args in
+    let a = c .before .before .before .before .before .before .args in
     sym (is-unsound (a .write) (a .t) (now (a .store)) (a .offset) (a .len) (sym (c .before .before .judge-and-read .ensures .0) ∙ not-true _ (c .if1 .taken)))
 
 request-last-requires : tie.Need-request-last-requires
@@ -38,54 +41,90 @@ why-last-requires c κs = search needs
 
 returns-2 : tie.Need-returns-2
 returns-2 c =
-    let a = c .before .before .before .before .before .before .before .before .before .args in
+    let a = c .before .before .before .before .before .before .before .before .before .before .args in
     sym (range-refused (a .write) (a .t) (now (a .store)) (a .offset) (a .len) _ (sym (c .before .before .before .before .before .before .judge-and-read .ensures .0) ∙ not-false _ (c .before .before .before .before .if1 .left))
     (handed-answer answerOfLast (c .before .before .before .request-last .ensures) (c .before .enum-told2 .given .1) (c .why-last .ensures) refl))
 
-find-serving-requires : tie.Need-find-serving-requires
-find-serving-requires c κs =
-    let a = c .before .before .before .before .before .before .before .before .before .args in
-    judged-known (a .t) (now (a .store)) (c .before .before .before .before .before .before .before .likely-slot .result .0) (c .before .before .before .before .before .before .judge-and-read .result .read .answer) (c .before .before .before .before .before .before .judge-and-read .result .read .starts) (c .before .before .before .before .before .before .judge-and-read .ensures .1)
-
-enum-known-a : tie.Need-enum-known-a
-enum-known-a c = search needs
+enum-known-h : tie.Need-enum-known-h
+enum-known-h c = search needs
 
 enum-told-3 : tie.Need-enum-told-3
 enum-told-3 c = search needs
 
-why-serving-requires : tie.Need-why-serving-requires
-why-serving-requires c κs = search needs
-
 returns-3 : tie.Need-returns-3
 returns-3 c =
-    let a = c .before .before .before .before .before .before .before .before .before .before .before .before .before .args in
-    let starts = c .before .before .before .find-serving .result .starts in
-    sym (not-served (a .write) (a .t) (now (a .store)) (a .offset) (a .len) _ _ (sym (c .before .before .before .before .before .before .before .before .before .before .judge-and-read .ensures .0) ∙ not-false _ (c .before .before .before .before .before .before .before .before .if1 .left))
-    (came answerOfLast (c .before .before .before .before .before .before .before .request-last .ensures) (c .before .before .before .before .before .enum-told .given .1))
-    (handed-answer-from (λ (x : ServingAnswer). answerOfServing x []) (λ (x : ServingAnswer). answerOfServing x starts) (c .before .before .before .find-serving .ensures) (c .before .enum-told3 .given .1) (c .why-serving .ensures) refl refl))
+    let a = c .before .before .before .before .before .before .before .before .before .before .before .args in
+    let s = sym (c .before .before .before .before .before .before .before .judge-and-read .ensures .0) ∙ not-false _ (c .before .before .before .before .before .if1 .left) in
+    let r = came answerOfLast (c .before .before .before .before .request-last .ensures) (c .before .before .enum-told .given .1) in
+    let g = came answerOfGrant (c .before .before .before .before .before .before .before .before .before .serving-grant .ensures) (c .enum-told3 .given .1) in
+    sym (not-served (a .write) (a .t) (now (a .store)) (a .offset) (a .len) _ _ s r (not-granted (a .write) (a .t) (a .offset) (now (a .store)) _ g))
 
-piece-at-requires : tie.Need-piece-at-requires
-piece-at-requires c κs =
-    let a = c .before .before .before .before .before .before .before .before .before .before .before .before .before .before .args in
-    let starts = c .before .before .before .before .find-serving .result .starts in
-    served-limits (a .write) (a .t) (now (a .store)) (a .offset) (a .len) _ _
-    (came answerOfLast (c .before .before .before .before .before .before .before .before .request-last .ensures) (c .before .before .before .before .before .before .enum-told .given .1))
-    (came (λ (x : ServingAnswer). answerOfServing x starts) (c .before .before .before .before .find-serving .ensures) (c .before .before .a .given .1))
+enum-known-a : tie.Need-enum-known-a
+enum-known-a c = search needs
+
+enum-told-4 : tie.Need-enum-told-4
+enum-told-4 c = search needs
 
 returns-4 : tie.Need-returns-4
 returns-4 c =
     let a = c .before .before .before .before .before .before .before .before .before .before .before .before .before .before .before .args in
-    let starts = c .before .before .before .before .before .find-serving .result .starts in
-    is-served (a .write) (a .t) (now (a .store)) (a .offset) (a .len) _ _ _ (sym (c .before .before .before .before .before .before .before .before .before .before .before .before .judge-and-read .ensures .0) ∙ not-false _ (c .before .before .before .before .before .before .before .before .before .before .if1 .left))
-    (came answerOfLast (c .before .before .before .before .before .before .before .before .before .request-last .ensures) (c .before .before .before .before .before .before .before .enum-told .given .1))
-    (came (λ (x : ServingAnswer). answerOfServing x starts) (c .before .before .before .before .before .find-serving .ensures) (c .before .before .before .a .given .1))
+    let s = sym (c .before .before .before .before .before .before .before .before .before .before .before .judge-and-read .ensures .0) ∙ not-false _ (c .before .before .before .before .before .before .before .before .before .if1 .left) in
+    let g = came answerOfGrant (c .before .before .before .before .before .before .before .before .before .before .before .before .before .serving-grant .ensures) (c .before .before .before .before .h .given .1) in
+    let i = c .before .before .before .before .before .before .before .before .before .before .before .before .slot-asked .ensures ∙ ap slotAsked (c .before .before .before .before .before .before .before .before .before .before .before .before .before .serving-grant .ensures) in
+    let starts = c .before .before .before .before .before .before .before .before .before .before .before .judge-and-read .result .read .starts in
+    let l = sym (body-asked (a .t) (now (a .store)) s (a .write) (a .offset) _ _ g i)
+    ∙ came (λ (x : LayoutAnswer). answerOfLayout x starts) (c .before .before .before .before .before .before .before .before .before .before .before .judge-and-read .ensures .1) (c .enum-told4 .given .1) in
+    absurd (body-not-refused (a .t) (now (a .store)) s (a .write) (a .offset) _ _ g l)
+
+is-barred-requires : tie.Need-is-barred-requires
+is-barred-requires c κs = search needs
+
+returns-5 : tie.Need-returns-5
+returns-5 c =
+    let a = c .before .before .before .before .before .before .before .before .before .before .before .before .before .before .before .before .before .before .args in
+    let s = sym (c .before .before .before .before .before .before .before .before .before .before .before .before .before .before .judge-and-read .ensures .0) ∙ not-false _ (c .before .before .before .before .before .before .before .before .before .before .before .before .if1 .left) in
+    let r = came answerOfLast (c .before .before .before .before .before .before .before .before .before .before .before .request-last .ensures) (c .before .before .before .before .before .before .before .before .before .enum-told .given .1) in
+    let g = came answerOfGrant (c .before .before .before .before .before .before .before .before .before .before .before .before .before .before .before .before .serving-grant .ensures) (c .before .before .before .before .before .before .before .h .given .1) in
+    let i = c .before .before .before .before .before .before .before .before .before .before .before .before .before .before .before .slot-asked .ensures ∙ ap slotAsked (c .before .before .before .before .before .before .before .before .before .before .before .before .before .before .before .before .serving-grant .ensures) in
+    let starts = c .before .before .before .before .before .before .before .before .before .before .before .before .before .before .judge-and-read .result .read .starts in
+    let l = sym (body-asked (a .t) (now (a .store)) s (a .write) (a .offset) _ _ g i)
+    ∙ came (λ (x : LayoutAnswer). answerOfLayout x starts) (c .before .before .before .before .before .before .before .before .before .before .before .before .before .before .judge-and-read .ensures .1) (c .before .before .before .a .given .1) in
+    sym (not-served (a .write) (a .t) (now (a .store)) (a .offset) (a .len) _ _ s r
+    (barred (a .write) (a .t) (a .offset) (now (a .store)) _ _ g l (sym (c .before .is-barred .ensures) ∙ c .if2 .taken)))
+
+piece-at-requires : tie.Need-piece-at-requires
+piece-at-requires c κs =
+    let a = c .before .before .before .before .before .before .before .before .before .before .before .before .before .before .before .before .before .before .before .args in
+    let s = sym (c .before .before .before .before .before .before .before .before .before .before .before .before .before .before .before .judge-and-read .ensures .0) ∙ not-false _ (c .before .before .before .before .before .before .before .before .before .before .before .before .before .if1 .left) in
+    let r = came answerOfLast (c .before .before .before .before .before .before .before .before .before .before .before .before .request-last .ensures) (c .before .before .before .before .before .before .before .before .before .before .enum-told .given .1) in
+    let g = came answerOfGrant (c .before .before .before .before .before .before .before .before .before .before .before .before .before .before .before .before .before .serving-grant .ensures) (c .before .before .before .before .before .before .before .before .h .given .1) in
+    let i = c .before .before .before .before .before .before .before .before .before .before .before .before .before .before .before .before .slot-asked .ensures ∙ ap slotAsked (c .before .before .before .before .before .before .before .before .before .before .before .before .before .before .before .before .before .serving-grant .ensures) in
+    let starts = c .before .before .before .before .before .before .before .before .before .before .before .before .before .before .before .judge-and-read .result .read .starts in
+    let l = sym (body-asked (a .t) (now (a .store)) s (a .write) (a .offset) _ _ g i)
+    ∙ came (λ (x : LayoutAnswer). answerOfLayout x starts) (c .before .before .before .before .before .before .before .before .before .before .before .before .before .before .before .judge-and-read .ensures .1) (c .before .before .before .before .a .given .1) in
+    served-limits (a .write) (a .t) (now (a .store)) (a .offset) (a .len) _ _ r
+    (not-barred (a .write) (a .t) (a .offset) (now (a .store)) _ _ g l (sym (c .before .before .is-barred .ensures) ∙ c .before .if2 .left))
+
+returns-6 : tie.Need-returns-6
+returns-6 c =
+    let a = c .before .before .before .before .before .before .before .before .before .before .before .before .before .before .before .before .before .before .before .before .args in
+    let s = sym (c .before .before .before .before .before .before .before .before .before .before .before .before .before .before .before .before .judge-and-read .ensures .0) ∙ not-false _ (c .before .before .before .before .before .before .before .before .before .before .before .before .before .before .if1 .left) in
+    let r = came answerOfLast (c .before .before .before .before .before .before .before .before .before .before .before .before .before .request-last .ensures) (c .before .before .before .before .before .before .before .before .before .before .before .enum-told .given .1) in
+    let g = came answerOfGrant (c .before .before .before .before .before .before .before .before .before .before .before .before .before .before .before .before .before .before .serving-grant .ensures) (c .before .before .before .before .before .before .before .before .before .h .given .1) in
+    let i = c .before .before .before .before .before .before .before .before .before .before .before .before .before .before .before .before .before .slot-asked .ensures ∙ ap slotAsked (c .before .before .before .before .before .before .before .before .before .before .before .before .before .before .before .before .before .before .serving-grant .ensures) in
+    let starts = c .before .before .before .before .before .before .before .before .before .before .before .before .before .before .before .before .judge-and-read .result .read .starts in
+    let l = sym (body-asked (a .t) (now (a .store)) s (a .write) (a .offset) _ _ g i)
+    ∙ came (λ (x : LayoutAnswer). answerOfLayout x starts) (c .before .before .before .before .before .before .before .before .before .before .before .before .before .before .before .before .judge-and-read .ensures .1) (c .before .before .before .before .before .a .given .1) in
+    is-served (a .write) (a .t) (now (a .store)) (a .offset) (a .len) _ _ _ s r
+    (not-barred (a .write) (a .t) (a .offset) (now (a .store)) _ _ g l (sym (c .before .before .before .is-barred .ensures) ∙ c .before .before .if2 .left))
     (c .piece-at .ensures)
 
 pub locate-spec : {M : Type 1} → statement M
 locate-spec =
     tie.close
     (tie.spec
-    likely-slot-requires
+    serving-grant-requires
+    slot-asked-requires
     judge-and-read-requires
     returns
     request-last-requires
@@ -93,10 +132,13 @@ locate-spec =
     enum-told-2
     why-last-requires
     returns-2
-    find-serving-requires
-    enum-known-a
+    enum-known-h
     enum-told-3
-    why-serving-requires
     returns-3
+    enum-known-a
+    enum-told-4
+    returns-4
+    is-barred-requires
+    returns-5
     piece-at-requires
-    returns-4)
+    returns-6)

@@ -21,7 +21,9 @@ mirrors-named-requires : tie.Need-mirrors-named-requires
 mirrors-named-requires c κs = search needs
 
 returns : tie.Need-returns
-returns c = piece-is (c .before .before .before .before .before .before .before .args .write) (now (c .before .before .before .before .before .before .before .args .store)) (c .before .before .before .before .before .before .before .args .offset) (c .before .before .before .before .before .before .before .args .len) _ _ _ _ _ _ (c .before .before .before .before .stripe-of .ensures) (c .before .before .before .piece-length .ensures) (c .before .before .slot-bytes .ensures) (c .before .slot-body .ensures) (c .mirrors-named .ensures)
+returns c =
+    let a = c .before .before .before .before .before .before .before .before .before .before .args in
+    piece-is (a .write) (now (a .store)) (a .offset) (a .len) _ _ _ _ _ _ (c .before .before .before .before .stripe-of .ensures) (c .before .before .before .piece-length .ensures) (c .before .before .slot-bytes .ensures) (c .before .slot-body .ensures) (c .mirrors-named .ensures)
 
 pub piece-at-spec : {M : Type 1} → statement M
 piece-at-spec =

@@ -16,13 +16,13 @@ enum-told-2 : tie.Need-enum-told-2
 enum-told-2 c = search needs
 
 returns : tie.Need-returns
-returns c = sym (ap (λ (r : Right). grantOf r (c .before .before .args .last)) (c .enum-told .given .1))
+returns c = search needs
 
 returns-2 : tie.Need-returns-2
-returns-2 c = sym (ap (λ (r : Right). grantOf r (c .before .before .before .args .last)) (c .before .right .given .1))
+returns-2 c = sym (ap (λ (r : Right). grantOf (c .before .before .before .args .iomode) r (c .before .before .before .args .last)) (c .before .right .given .1))
 
 returns-3 : tie.Need-returns-3
-returns-3 c = sym (ap (λ (r : Right). grantOf r (c .before .before .args .last)) (c .enum-told2 .given .1))
+returns-3 c = search needs
 
 pub grant-of-spec : {M : Type 1} → statement M
 grant-of-spec =
