@@ -11,12 +11,12 @@ use lib.Seq.{drop-at, length-sets, length-take-le, sets, sets-eq, take-all, take
 use Rattle.buffers.specs.Buffers.{stored}
 use Rattle.buffers.proofs.StoredLaws.{fits-stored}
 use Rattle.numbers.specs.Numbers.{beAt, bytesFrom}
+use Rattle.numbers.proofs.Standing.{Stands}
 use Rattle.report.specs.declared.ReportHead.{ReportHead}
 use Rattle.report_write.specs.Places.{RecordFits}
 use Rattle.report_write.specs.Writing as writing
 use Rattle.report_write.specs.Writing.{errorBytes, recordHere, recordsAt, reportsWritten}
 use Rattle.report_write.proofs.RecordLaws.{length-records, take-records}
-use Rattle.report_write.proofs.Standing.{Stands}
 use Rattle.report_write.proofs.StoringLaws.{length-error}
 use Rattle.report_write.proofs.Written.{record-stands}
 use Rattle.error_list.specs.Records.{recordOf, recordsOf}

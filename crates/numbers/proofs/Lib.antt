@@ -1,3 +1,4 @@
 pub mod NumberLaws
 pub mod SameLaws
 pub mod ZeroLaws
+pub mod Standing

@@ -11,11 +11,13 @@ use Rattle.base.specs.Answer.{accepted, given, pick}
 use Rattle.base.specs.Ranges.{rangeLast}
 use Rattle.numbers.specs.Numbers.{AllBytes, beAt, beBytes, bytesFrom}
 use Rattle.numbers.proofs.NumberLaws.{length-be, length-bytes}
+use Rattle.numbers.proofs.Standing.{bytes-are, Stands, stands-join}
 use Rattle.xdr.specs.Items.{bytesAt, countAt, numAt}
 use Rattle.xdr.specs.Res.{ok, asItem, manyAt}
 use Rattle.xdr.specs.declared.Part.{Part}
 use Rattle.xdr.proofs.ItemLaws.{num-there}
 use Rattle.xdr.proofs.Accepted.{bytes-read, count-read, item-accepted, number-read, passed, ran, same-value, same-place}
+use Rattle.xdr.proofs.StandingItems.{num-back}
 use Rattle.report.specs.Reports.{errorAt, errorFits, headAt, Report, reportAt}
 use Rattle.report.specs.declared.ErrorItem.{ErrorItem}
 use Rattle.report.specs.declared.ReportHead.{ReportHead}
@@ -23,7 +25,6 @@ use Rattle.xdr.proofs.ManyLaws.{many-none}
 use Rattle.report_write.specs.Places.{recordsIn}
 use Rattle.report_write.specs.Writing.{allFit, counts, ErrorRecord, errorsBytes, headBytes, judged, judgedOne, recordHere, recordsAt, reportsBytes}
 use Rattle.report_write.proofs.RecordLaws.{length-records}
-use Rattle.report_write.proofs.Standing.{be-stands, bytes-are, Stands, stands-join}
 use Rattle.report_write.proofs.StoringLaws.{length-errors, length-head, records-back}
 
 -- ---- an error
@@ -122,9 +123,9 @@ head-parts s at o p1 l p2 x p3 st p4 n p5 b f g h i j =
     let zs : Stands z s (at + 16) = rw begin (bytes-are 16 s (at + 16) (omega (arith, r, begin))) in
     let o8 = length-be 8 o in
     let l8 = length-be 8 l in
-    let os = be-stands 8 s at o b (omega (arith, f' .end, f' .within)) (f' .value) in
-    let ls : Stands (beBytes 8 l) s (at + 8) = rw e1 at (be-stands 8 s p1 l b (omega (arith, g' .end, g' .within)) (g' .value)) in
-    let ns : Stands (beBytes 4 n) s (at + 32) = rw e4 at (be-stands 4 s p4 n b (omega (arith, k .end, k .within)) (k .value)) in
+    let os = num-back 8 s at o p1 b f' in
+    let ls : Stands (beBytes 8 l) s (at + 8) = rw e1 at (num-back 8 s p1 l p2 b g') in
+    let ns : Stands (beBytes 4 n) s (at + 32) = rw e4 at (num-back 4 s p4 n p5 b k) in
     record {
       stands = stands-join (beBytes 8 o) (beBytes 8 l ++ (z ++ beBytes 4 n)) s at (at + 8) (omega (arith, o8)) os
           (stands-join (beBytes 8 l) (z ++ beBytes 4 n) s (at + 8) (at + 16) (omega (arith, l8)) ls

@@ -1,5 +1,5 @@
 -- The round trips: reading what was written gives the same reports, writing what was read gives the same bytes; and the body with nothing in it.
-use Prim.Native.Nat.{ℕ, _+_, _^_, _≤_, _<_}
+use Prim.Native.Nat.{ℕ, _+_, _≤_}
 use mathlib.Core.Path.{_≡_, refl, sym, ap, _∙_}
 use mathlib.Core.List.{List, [], _++_, map}
 use native.Mathlib.Omega.{arith}
@@ -12,10 +12,12 @@ use Rattle.base.specs.Lists.{Each, padded}
 use Rattle.base.proofs.AnswerLaws.{gave, pick-accepted, same-answer}
 use Rattle.numbers.specs.Numbers.{AllBytes, beBytes, beValue, beFrom}
 use Rattle.numbers.proofs.NumberLaws.{length-be}
+use Rattle.numbers.proofs.Standing.{Stands, stands-join, stands-parts, stands-whole, whole-stands}
 use Rattle.xdr.specs.Items.{countAt, numAt}
 use Rattle.xdr.specs.Res.{ok, then, whole, manyAt, endOf}
 use Rattle.xdr.proofs.Accepted.{Number, count-read, number-read, whole-read, ran, same-value, same-place}
 use Rattle.xdr.proofs.ManyLaws.{many-length}
+use Rattle.xdr.proofs.StandingItems.{count-stands, num-back}
 use Rattle.report.specs.Reports.{Report, reportAt, reportBody, reportsAt}
 use Rattle.report.specs.Answers.{headsOf}
 use Rattle.report.specs.declared.ReportHead.{ReportHead}
@@ -23,7 +25,6 @@ use Rattle.report.proofs.ReportLaws.{body-accepted, reports-accepted}
 use Rattle.report_write.specs.Places.{HeadFits, placed, RecordFits, recordsIn}
 use Rattle.report_write.specs.Writing.{bodyBytes, bodyWritten, counts, ErrorRecord, fitted, judged, reportsBytes, reportsWritten}
 use Rattle.report_write.proofs.ReadBack.{reports-back}
-use Rattle.report_write.proofs.Standing.{be-stands, num-stands, Stands, stands-join, stands-parts, stands-whole, whole-stands}
 use Rattle.report_write.proofs.Written.{placed-records, reports-stand}
 
 -- ---- what an accepted writing says
@@ -44,12 +45,6 @@ wrote count heads es z room bs h =
     let d = pick-accepted _ _ 26 bs (c .rest) in
     let e : bodyBytes (take count heads) es z ≡ bs = same-answer (d .1) in
     record { few = leb-true count 8 (a .0); sum = eqb-true (counts (take count heads)) (length es) (b .0); allowed = c .first; bytes = e }
-
--- ---- a count that stands is read
-
-count-stands : (lo hi v : ℕ) (s : List ℕ) (at : ℕ) → lo ≤ v → v ≤ hi → v < 256 ^ 4 → Stands (beBytes 4 v) s at → countAt lo hi s at ≡ ok v (at + 4)
-unfolding countAt then pick
-count-stands lo hi v s at a b c w = rw (num-stands 4 v s at c w, le-leb lo v a, le-leb v hi b)
 
 -- the two halves of what was written: the reports, as they are read, and what follows them
 pub record Halves (hs : List ReportHead) (es : List ErrorRecord) (z bs : List ℕ) : Type 0 where
@@ -137,7 +132,7 @@ body-back : (bs : List ℕ) (hs : List ReportHead) (es : List ErrorRecord) (z : 
 unfolding bodyBytes
 body-back bs hs es z n q b e c w p v l =
     let n4 = length-be 4 (length hs) in
-    let first = be-stands 4 bs 0 (length hs) b (c .within) (e ∙ c .value) in
+    let first = num-back 4 bs 0 (length hs) 4 b (rw (← e) at c) in
     let all = stands-join (beBytes 4 (length hs)) (reportsBytes hs es ++ z) bs 0 4 (omega (arith, n4)) first (stands-join (reportsBytes hs es) z bs 4 q p w v) in
     let s = length-append (beBytes 4 (length hs)) (reportsBytes hs es ++ z) in
     let t = length-append (reportsBytes hs es) z in
@@ -156,7 +151,7 @@ writing-what-was-read bs rs room b r h =
     let c = number-read 4 bs 0 (length rs) 4 (x .count) in
     let z = number-read 4 bs (a .place) 0 (length bs) (a .statistics) in
     let w = reports-back (length rs) bs 4 rs (a .place) b (c .within) (x .reports) in
-    let v = be-stands 4 bs (a .place) 0 b (omega (arith, z .end)) (z .value) in
+    let v = num-back 4 bs (a .place) 0 (length bs) b z in
     let e : bodyBytes hs (recordsIn bs rs) (beBytes 4 0) ≡ bs =
     body-back bs hs (recordsIn bs rs) (beBytes 4 0) (length rs) (a .place) b n c (w .stands) (w .place) v (omega (arith, z .end, length-be 4 0)) in
     rw (le-leb (length rs) 8 (x .few), t, eq-eqb _ _ (w .sum), w .allowed, e, le-leb (length bs) room r)

@@ -1,5 +1,5 @@
 -- Laws of what is stored: how long each part of a body is, and the parts one behind the other.
-use Prim.Native.Nat.{ℕ, zero, suc, _+_, _-_, _*_, _≤_, _<_}
+use Prim.Native.Nat.{ℕ, zero, suc, _+_, _*_, _≤_, _<_}
 use mathlib.Core.Path.{_≡_, refl, sym, ap, _∙_}
 use mathlib.Core.List.{List, [], _∷_, _++_}
 use mathlib.Core.Bool.{Bool, true, false, not, false≢true}
@@ -14,13 +14,13 @@ use Rattle.base.proofs.AnswerLaws.{both, gave}
 use Rattle.buffers.specs.Buffers.{stored}
 use Rattle.numbers.specs.Numbers.{AllBytes, beAt, beBytes, beValue, bytesFrom}
 use Rattle.numbers.proofs.NumberLaws.{length-be, length-bytes}
+use Rattle.numbers.proofs.Standing.{be-at-stands, bytes-are, Stands, stands-join}
 use Rattle.buffers.proofs.StoredLaws.{fits-stored, length-stored, sets-append, stored-then}
 use Rattle.report.specs.Reports.{errorFits}
 use Rattle.report.specs.declared.ReportHead.{ReportHead}
 use Rattle.report_write.specs.Writing.{outputAfter, allFit, bodyBytes, bodyWritten, counts, ErrorRecord, errorBytes, errorsBytes, fitted, headBytes, judged, judgedOne, recordHere, recordsAt, reportsBytes, stateidsWhole}
 use Rattle.report_write.specs.Answers.{lengthOf}
 use Rattle.report_write.proofs.RecordLaws.{allowed, drop-records, length-records, take-records}
-use Rattle.report_write.proofs.Standing.{be-at-stands, bytes-are, Stands, stands-join}
 
 -- ---- how long each part is
 

@@ -12,16 +12,17 @@ use Rattle.base.specs.Lists.{Each}
 use Rattle.base.proofs.AnswerLaws.{both, gave}
 use Rattle.numbers.specs.Numbers.{beBytes, bytesFrom}
 use Rattle.numbers.proofs.NumberLaws.{length-be}
+use Rattle.numbers.proofs.Standing.{be-stands-at, Stands, stands-parts}
 use Rattle.xdr.specs.Items.{countAt}
 use Rattle.xdr.specs.Res.{ok, then, asItem, manyAt, endOf}
 use Rattle.xdr.proofs.EndLaws.{none-end, others-end}
+use Rattle.xdr.proofs.StandingItems.{bytes-stand, num-stands}
 use Rattle.report.specs.Reports.{errorAt, errorFits, headAt, reportAt}
 use Rattle.report.specs.declared.ReportHead.{ReportHead}
 use Rattle.report.proofs.ReportLaws.{report-ends}
 use Rattle.report_write.specs.Places.{HeadFits, placed, RecordFits, recordsIn}
 use Rattle.report_write.specs.Writing.{allFit, counts, ErrorRecord, errorBytes, errorsBytes, headBytes, judged, recordHere, recordsAt, reportsBytes}
 use Rattle.report_write.proofs.RecordLaws.{Allowed, allowed}
-use Rattle.report_write.proofs.Standing.{Stands, stands-parts, num-stands, bytes-stand, be-stands-at}
 use Rattle.report_write.proofs.StoringLaws.{length-error, length-head}
 
 pub error-stands : (e : ErrorRecord) (s : List ℕ) (at : ℕ) → RecordFits e → errorFits (e .status) (e .operation) ≡ true → Stands (errorBytes e) s at
@@ -35,7 +36,7 @@ error-stands e s at f k w =
     let st = num-stands 4 (e .status) s (at + 16) (f .1) (rw p at (b .0)) in
     let op = num-stands 4 (e .operation) s (at + 16 + 4) (f .2) (rw q at (b .1)) in
     let z : at + 16 + 4 + 4 ≡ at + 24 = omega arith in
-    rw (bytes-stand (e .device) s at (f .0) (a .0), st, op, k, z)
+    rw (bytes-stand 16 (e .device) s at (f .0) refl (a .0), st, op, k, z)
 
 -- ---- runs, heads, reports
 
@@ -75,7 +76,7 @@ head-stands h s at es f k w =
       num-stands 8 (h .offset) s at (f .0) (a .0),
       num-stands 8 (h .length) s (at + 8) (f .1) (rw p1 at (b .0)),
       k .range,
-      bytes-stand (h .stateid) s (at + 8 + 8) (f .2) st,
+      bytes-stand 16 (h .stateid) s (at + 8 + 8) (f .2) refl st,
       num-stands 4 (h .errors) s (at + 8 + 8 + 16) big (rw p3 at (c .1)),
       le-leb 1 (h .errors) (k .some),
       le-leb (h .errors) 16 (k .few),

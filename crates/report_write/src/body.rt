@@ -26,9 +26,10 @@ fn write_body(
     tail: &[u8],
     out: &mut [u8],
 ) -> Written
-    ensures { λ r. ⌜ (answerOfWritten r ≡ lengthOf (bodyWritten count heads (recordsAt «list_length» (now (errors .entry)) 0) (now (tail .entry)) (length (now (out .entry)))))
-        × (now (out .exit) ≡ outputAfter (now (out .entry))
-            (bodyWritten count heads (recordsAt «list_length» (now (errors .entry)) 0) (now (tail .entry)) (length (now (out .entry))))) ⌝ }
+    ensures { λ r. ⌜ (answerOfWritten r ≡ lengthOf (bodyWritten count heads
+        (recordsAt «list_length» (now (errors .entry)) 0) (now (tail .entry)) (length (now (out .entry)))))
+        × (now (out .exit) ≡ outputAfter (now (out .entry)) (bodyWritten count heads
+        (recordsAt «list_length» (now (errors .entry)) 0) (now (tail .entry)) (length (now (out .entry))))) ⌝ }
 {
     if 8 < count {
         return Written::Refused(Refusal::Fault(Fault::OutsideLimit));

@@ -4,3 +4,4 @@ pub mod Accepted
 pub mod ManyLaws
 pub mod EndLaws
 pub mod PlaceLaws
+pub mod StandingItems

@@ -1,4 +1,4 @@
--- Laws of bytes that stand at a place of a list: parts and joins, and what is read there.
+-- Laws of bytes that stand at a place of a list: parts and joins, and a number that stands there.
 use Prim.Native.Nat.{ℕ, _+_, _^_, _≤_, _<_}
 use mathlib.Core.Path.{_≡_, refl, sym, ap, _∙_}
 use mathlib.Core.List.{List, _++_}
@@ -7,10 +7,8 @@ use borrow.Author.Tests.{le-leb}
 use lib.ListN.{length, take, drop, length-append}
 use lib.Seq.{drop-at, take-at, take-length}
 use Rattle.base.specs.Answer.{pick}
-use Rattle.numbers.specs.Numbers.{allZero, AllBytes, beAt, beBytes, beValue, bytesFrom}
+use Rattle.numbers.specs.Numbers.{AllBytes, beAt, beBytes, beValue, bytesFrom}
 use Rattle.numbers.proofs.NumberLaws.{be-back, be-round, dropped-bytes, length-be, length-bytes, taken-bytes, two-parts}
-use Rattle.xdr.specs.Res.{ok}
-use Rattle.xdr.specs.Items.{bytesAt, numAt, padding}
 
 -- the bytes bs stand in s from a place on
 pub record Stands (bs s : List ℕ) (at : ℕ) : Type 0 where
@@ -48,15 +46,7 @@ stands-join xs ys s at p e a b =
           ∙ ap (λ (x : List ℕ). xs ++ x) (b .same);
     }
 
--- ---- what is read where bytes stand
-
-pub num-stands : (k v : ℕ) (s : List ℕ) (at : ℕ) → v < 256 ^ k → Stands (beBytes k v) s at → numAt k s at ≡ ok v (at + k)
-unfolding numAt pick
-num-stands k v s at h w =
-    let n = length-be k v in
-    let r : at + k ≤ length s = omega (arith, w .room) in
-    let e : bytesFrom k s at ≡ beBytes k v = ap (λ (m : ℕ). bytesFrom m s at) (sym n) ∙ w .same in
-    rw (le-leb (at + k) (length s) r, e, be-round k v h)
+-- ---- a number that stands there
 
 pub be-stands-at : (k v : ℕ) (s : List ℕ) (at : ℕ) → v < 256 ^ k → Stands (beBytes k v) s at → beAt k s at ≡ v
 unfolding beAt pick
@@ -65,15 +55,6 @@ be-stands-at k v s at h w =
     let r : at + k ≤ length s = omega (arith, w .room) in
     let e : bytesFrom k s at ≡ beBytes k v = ap (λ (m : ℕ). bytesFrom m s at) (sym n) ∙ w .same in
     rw (le-leb (at + k) (length s) r, e, be-round k v h)
-
-pub bytes-stand : (bs s : List ℕ) (at : ℕ) → length bs ≡ 16 → Stands bs s at → bytesAt 16 s at ≡ ok (record { start = at; len = 16 }) (at + 16)
-unfolding bytesAt pick allZero
-bytes-stand bs s at h w =
-    let r : at + 16 + padding 16 ≤ length s = omega (arith, w .room) in
-    let e : at + 16 + padding 16 ≡ at + 16 = omega arith in
-    rw (le-leb (at + 16 + padding 16) (length s) r, e)
-
--- ---- what stands where a number was read
 
 pub be-stands : (k : ℕ) (s : List ℕ) (at v : ℕ) → AllBytes s → at + k ≤ length s → v ≡ beValue (bytesFrom k s at) → Stands (beBytes k v) s at
 be-stands k s at v b r e =
