@@ -1,7 +1,7 @@
 -- A test over the segments of the model's table is the model's own test over bytes.
 use Prim.Native.Nat.{ℕ, suc, _≤_, _<_}
-use mathlib.Core.Path.{_≡_, refl, sym, ap, _∙_}
-use mathlib.Core.Bool.{Bool, true, false, _&&_, _||_}
+use mathlib.Core.Path.{_≡_, sym, ap, _∙_}
+use mathlib.Core.Bool.{Bool, true, false, _&&_, _||_, and-assoc}
 use mathlib.Core.List.{List}
 use native.Mathlib.Omega.{arith}
 use Rattle.segments.specs.declared.Right.{Right}
@@ -19,8 +19,7 @@ and-any true p q n h = any-ext p q n h
 and-any false p q n h = sym (any-none q n (λ x k. sym (h x k)))
 
 regroup : (a b c d : Bool) → c ≡ d → (a && (b && c)) ≡ ((a && b) && d)
-regroup true b c d e = ap (λ (y : Bool). b && y) e
-regroup false b c d e = refl
+regroup a b c d e = ap (λ (y : Bool). a && (b && y)) e ∙ sym (and-assoc a b d)
 
 module _ (N : ℕ) (M : Model) (o : Order) (p : Right → Bool) (q : ByteRight → Bool) (rising : o .first ≤ o .last) (free : p None ≡ false)
     (same : (m : Mode) (x : ℕ) → x ≤ N → p (withSlot (M .slots) (M .right m x)) ≡ q (M .right m x))

@@ -1,17 +1,51 @@
 -- What holds of lists, whatever stands in them.
-use Prim.Native.Nat.{ℕ, zero, suc, _+_, _-_, _≤_, _<_}
-use mathlib.Core.Path.{_≡_, refl, sym, _∙_}
-use mathlib.Core.List.{List, [], _∷_, _++_, map, append-assoc, append-nil}
+use Prim.Native.Nat.{ℕ, zero, suc, _+_, _-_, _≤_, _<_, min}
+use mathlib.Core.Path.{_≡_, refl, sym, ap, _∙_}
+use mathlib.Core.List.{List, [], _∷_, _++_, map, append-assoc, append-nil, map-append}
+use native.Mathlib.Decide.{decLe}
+use native.Mathlib.Nat.{add-zero}
+use native.Mathlib.Numerals.{add-one}
 use native.Mathlib.Omega.{arith}
-use lib.ListN.{length, drop, getD, replicate, set, length-append, length-map, length-replicate, length-set, replicate-append-replicate}
-use lib.Seq.{append-snoc, drop-append-add, set-append-left, set-at, sets, sets-eq, take-append-seam}
+use lib.ListN.{length, take, drop, getD, replicate, set, length-append, length-map, length-replicate, length-set, replicate-append-replicate}
+use lib.Seq.{append-snoc, drop-append-add, set-append-left, set-at, set-comm, sets, sets-eq, take-all, take-append-seam, take-suc, take-suc-set}
 use Rattle.base.specs.Lists.{Each, padded}
 
 -- the length of an array of structs, from what is known of a parameter
 pub mapped-long {ℓ} : {A : Type 0} {B : Type ℓ} (f : A → B) (l : List A) (n : ℕ) → length (map f l) ≡ n → length l ≡ n
 mapped-long f l n e = sym (length-map l f) ∙ e
 
--- what every member has, the one at a place has
+-- a count above the length counts as the length
+pub take-capped : {A : Type 0} (l : List A) (k n m : ℕ) → length l ≡ k → m ≡ min n k → take m l ≡ take n l
+take-capped l k n m h e = go (decLe n k)
+  where
+    go : Dec (n ≤ k) → take m l ≡ take n l
+    go (yes j) = let f : m ≡ n = omega arith in rw f
+    go (no j) = take-all m l (omega arith) ∙ sym (take-all n l (omega arith))
+
+-- a run of stores in two parts
+pub sets-append : {A : Type 0} (l : List A) (at : ℕ) (xs ys : List A) → sets l at (xs ++ ys) ≡ sets (sets l at xs) (at + length xs) ys
+sets-append l at [] ys = rw (add-zero at)
+sets-append l at (x ∷ xs) ys = let e : at + suc (length xs) ≡ suc at + length xs = omega arith in rw e (sets-append (set l at x) (suc at) xs ys)
+
+-- a store behind a run may be made before it
+pub sets-set : {A : Type 0} (l : List A) (at : ℕ) (xs : List A) (j : ℕ) (b : A) → at + length xs ≤ j → sets (set l j b) at xs ≡ set (sets l at xs) j b
+sets-set l at [] j b h = refl
+sets-set l at (x ∷ xs) j b h =
+    let n : suc at + length xs ≤ j = omega arith in
+    ap (λ (m : List _). sets m (suc at) xs) (set-comm l j at b x (λ e. omega arith)) ∙ sets-set (set l at x) (suc at) xs j b n
+
+-- ---- a list made of another, element by element
+
+module _ {A B : Type 0} (f : A → B) (l : List A) (made : List B) (i : ℕ) where
+  pub map-next : (d : A) → i < length l → i < length made → take i made ≡ map f (take i l)
+      → take (i + 1) (set made i (f (getD l i d))) ≡ map f (take (i + 1) l)
+  map-next d h k e = rw (add-one i, take-suc-set made i (f (getD l i d)) k, take-suc l i d h, map-append f (take i l) (getD l i d ∷ []), e)
+
+  pub map-all : length l ≤ i → length made ≤ i → take i made ≡ map f (take i l) → made ≡ map f l
+  map-all h k e = sym (take-all i made k) ∙ (e ∙ ap (map f) (take-all i l h))
+
+-- ---- what every member has
+
 pub each-at : {A : Type 0} (P : A → Type 0) (l : List A) (i : ℕ) (d : A) → Each P l → i < length l → P (getD l i d)
 each-at P [] i d h k = absurd (omega arith)
 each-at P (a ∷ l) zero d h k = h .0

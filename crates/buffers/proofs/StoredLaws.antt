@@ -1,30 +1,18 @@
--- Laws of bytes stored into a buffer: runs of stores join, and a number is stored from its last byte to its first, or the other way round.
+-- Laws of bytes stored into a buffer: a number is stored from its last byte to its first, or the other way round, and runs of stores join.
 use Prim.Native.Nat.{ℕ, zero, suc, _+_, _-_, _/_, _%_, _≤_, _<_}
 use mathlib.Core.Path.{_≡_, refl, sym, ap, _∙_}
 use mathlib.Core.Bool.{Bool, true, false}
 use mathlib.Core.List.{List, [], _∷_, _++_}
 use native.Mathlib.Omega.{arith}
-use native.Mathlib.Nat.{add-zero}
 use borrow.Author.Tests.{le-leb, lt-leb}
 use lib.Dec.{leb}
 use lib.ListN.{length, take, getD, set, length-append, length-take}
-use lib.Seq.{sets, length-sets, set-comm, take-suc}
+use lib.Seq.{sets, length-sets, take-suc}
 use Rattle.base.specs.Answer.{pick}
+use Rattle.base.proofs.ListLaws.{sets-append, sets-set}
 use Rattle.buffers.specs.Buffers.{stored}
 use Rattle.numbers.specs.Numbers.{beBytes, leBytes}
 use Rattle.numbers.proofs.NumberLaws.{length-be}
-
--- a run of stores in two parts
-pub sets-append : (l : List ℕ) (at : ℕ) (xs ys : List ℕ) → sets l at (xs ++ ys) ≡ sets (sets l at xs) (at + length xs) ys
-sets-append l at [] ys = rw (add-zero at)
-sets-append l at (x ∷ xs) ys = let e : at + suc (length xs) ≡ suc at + length xs = omega arith in rw e (sets-append (set l at x) (suc at) xs ys)
-
--- a store behind a run may be made before it
-pub sets-set : (l : List ℕ) (at : ℕ) (xs : List ℕ) (j b : ℕ) → at + length xs ≤ j → sets (set l j b) at xs ≡ set (sets l at xs) j b
-sets-set l at [] j b h = refl
-sets-set l at (x ∷ xs) j b h =
-    let n : suc at + length xs ≤ j = omega arith in
-    ap (λ (m : List ℕ). sets m (suc at) xs) (set-comm l j at b x (λ e. omega arith)) ∙ sets-set (set l at x) (suc at) xs j b n
 
 -- a number's last byte first
 pub last-byte-first : (l : List ℕ) (at i v : ℕ) → 0 < i

@@ -1,3 +1,2 @@
-pub mod MapLaws
 pub mod RecordLaws
 pub mod RoundTrip

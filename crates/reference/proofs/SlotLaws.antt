@@ -1,9 +1,10 @@
 -- Laws of the slots: which slot holds a body, and that placing a body and emptying a slot leave the others where they are.
-use Prim.Native.Nat.{ℕ, zero, suc, _<_}
+use Prim.Native.Nat.{ℕ, zero, suc, _+_, _-_, _≤_, _<_}
 use mathlib.Core.Path.{_≡_, refl, sym, ap, _∙_}
 use mathlib.Core.Logic.{_⊎_, inl, inr, ⊎-elim}
 use mathlib.Core.Bool.{Bool, true, false, not, _&&_, _||_, false≢true, or-true}
 use mathlib.Core.List.{List, [], _∷_, map}
+use native.Mathlib.Numerals.{add-one}
 use native.Mathlib.Omega.{arith}
 use borrow.Author.Tests.{not-true}
 use lib.ListN.{length, getD}
@@ -12,9 +13,23 @@ use Rattle.base.proofs.AnswerLaws.{both}
 use Rattle.numbers.specs.Numbers.{sameBytes}
 use Rattle.numbers.proofs.SameLaws.{same-not, same-other, same-refl, same-true}
 use Rattle.segments.specs.Segments.{Mode}
-use Rattle.store.specs.Store.{Body, Slot, empty, holds}
+use Rattle.store.specs.Store.{Body, Slot, empty, holds, bodyIn, slotAt}
 use Rattle.reference.specs.Model.{ByteRight, Deed, grants, returns, recalls, revokes, anyByte, ifNamed, inLowest, inSlots, isUnder, noneEmpty, placed, slotOf, stops24}
-use Rattle.reference.specs.Sound.{noTwoAlike}
+use Rattle.reference.specs.Sound.{noTwoAlike, slotsFrom}
+
+-- ---- the slots of a store, one after the other
+
+module _ (named : ℕ → Bool) (store : List ℕ) (n i : ℕ) where
+  pub next-slot : i < n
+      → slotsFrom named store (n - i) i ≡ pick (named i) (holds (bodyIn (slotAt store i))) empty ∷ slotsFrom named store (n - (i + 1)) (i + 1)
+  unfolding slotsFrom
+  next-slot h =
+      let e : n - i ≡ suc (n - (i + 1)) = omega arith in
+      rw (e, add-one i)
+
+  pub no-slot : n ≤ i → slotsFrom named store (n - i) i ≡ []
+  unfolding slotsFrom
+  no-slot h = let e : n - i ≡ 0 = omega arith in rw e
 
 -- ---- bodies and slots that are alike
 

@@ -15,7 +15,8 @@ use Rattle.buffers.specs.Buffers.{stored}
 use Rattle.numbers.specs.Numbers.{AllBytes, beAt, beBytes, beValue, bytesFrom}
 use Rattle.numbers.proofs.NumberLaws.{length-be, length-bytes}
 use Rattle.numbers.proofs.Standing.{be-at-stands, bytes-are, Stands, stands-join}
-use Rattle.buffers.proofs.StoredLaws.{fits-stored, length-stored, sets-append, stored-then}
+use Rattle.base.proofs.ListLaws.{sets-append}
+use Rattle.buffers.proofs.StoredLaws.{fits-stored, length-stored, stored-then}
 use Rattle.report.specs.Reports.{errorFits}
 use Rattle.report.specs.declared.ReportHead.{ReportHead}
 use Rattle.report_write.specs.Writing.{outputAfter, allFit, bodyBytes, bodyWritten, counts, ErrorRecord, errorBytes, errorsBytes, fitted, headBytes, judged, judgedOne, recordHere, recordsAt, reportsBytes, stateidsWhole}

@@ -9,16 +9,9 @@ use Rattle.numbers.specs.Numbers.{sameBytes}
 use Rattle.store.specs.Store.{Body, Slot, empty, holds, bodyIn, slotAt, slotSet}
 use Rattle.reference.specs.Model.{inSlots, noneEmpty, slotOf}
 use Rattle.reference.specs.Sound.{slotsFrom}
+use Rattle.reference.proofs.SlotLaws.{next-slot, no-slot}
 use Rattle.slots.specs.declared.home.Home.the-variants.{Old, New, Nowhere}
 use Rattle.slots.specs.Slots.{clearedFrom, emptyHome, homeOf, lowestEmpty}
-
-next : (named : ℕ → Bool) (bytes : List ℕ) (i : ℕ) → i < 8
-    → slotsFrom named bytes (8 - i) i ≡ pick (named i) (holds (bodyIn (slotAt bytes i))) empty ∷ slotsFrom named bytes (8 - (i + 1)) (i + 1)
-unfolding slotsFrom
-next named bytes i h =
-    let e : 8 - i ≡ suc (8 - (i + 1)) = omega arith in
-    let f : i + 1 ≡ suc i = omega arith in
-    rw (e, f) refl
 
 -- ---- the lowest slot that no segment names
 
@@ -33,23 +26,22 @@ module _ (named : ℕ → Bool) (bytes : List ℕ) (i : ℕ) (n : NamedTo named 
   pub named-next : i < 8 → named i ≡ true → NamedTo named bytes (i + 1)
   unfolding noneEmpty lowestEmpty pick
   named-next h e =
-      let a : noneEmpty (slotsFrom named bytes (8 - i) i) ≡ noneEmpty (slotsFrom named bytes (8 - (i + 1)) (i + 1)) = rw (next named bytes i h, e) refl in
-      let b : lowestEmpty (slotsFrom named bytes (8 - i) i) ≡ suc (lowestEmpty (slotsFrom named bytes (8 - (i + 1)) (i + 1))) = rw (next named bytes i h, e) refl in
+      let a : noneEmpty (slotsFrom named bytes (8 - i) i) ≡ noneEmpty (slotsFrom named bytes (8 - (i + 1)) (i + 1)) = rw (next-slot named bytes 8 i h, e) refl in
+      let b : lowestEmpty (slotsFrom named bytes (8 - i) i) ≡ suc (lowestEmpty (slotsFrom named bytes (8 - (i + 1)) (i + 1))) = rw (next-slot named bytes 8 i h, e) refl in
       record { none = n .none ∙ a; lowest = omega (arith, n .lowest, b) }
 
   pub not-named : i < 8 → named i ≡ false → New (record { 0 = i }) ≡ emptyHome (slotsFrom named bytes 8 0)
   unfolding noneEmpty lowestEmpty pick emptyHome
   not-named h e =
-      let a : noneEmpty (slotsFrom named bytes (8 - i) i) ≡ false = rw (next named bytes i h, e) refl in
-      let b : lowestEmpty (slotsFrom named bytes (8 - i) i) ≡ 0 = rw (next named bytes i h, e) refl in
+      let a : noneEmpty (slotsFrom named bytes (8 - i) i) ≡ false = rw (next-slot named bytes 8 i h, e) refl in
+      let b : lowestEmpty (slotsFrom named bytes (8 - i) i) ≡ 0 = rw (next-slot named bytes 8 i h, e) refl in
       let c : lowestEmpty (slotsFrom named bytes 8 0) ≡ i = omega (arith, n .lowest, b) in
       rw (n .none ∙ a, c) refl
 
   pub named-all : 8 ≤ i → Nowhere ≡ emptyHome (slotsFrom named bytes 8 0)
-  unfolding noneEmpty slotsFrom pick emptyHome
+  unfolding noneEmpty pick emptyHome
   named-all h =
-      let e : 8 - i ≡ 0 = omega arith in
-      let a : noneEmpty (slotsFrom named bytes (8 - i) i) ≡ true = rw e refl in
+      let a : noneEmpty (slotsFrom named bytes (8 - i) i) ≡ true = rw (no-slot named bytes 8 i h) refl in
       rw (n .none ∙ a) refl
 
 -- ---- the slot that holds a body
@@ -73,8 +65,8 @@ module _ (b : Body) (named : ℕ → Bool) (bytes : List ℕ) (i : ℕ) (n : Sou
   pub sought-next : i < 8 → (named i && sameBytes b (bodyIn (slotAt bytes i))) ≡ false → SoughtTo b named bytes (i + 1)
   sought-next h e =
       let p = passed (named i) (sameBytes b (bodyIn (slotAt bytes i))) (slotsFrom named bytes (8 - (i + 1)) (i + 1)) refl e in
-      let a : slotOf b (slotsFrom named bytes (8 - i) i) ≡ suc (slotOf b (slotsFrom named bytes (8 - (i + 1)) (i + 1))) = ap (slotOf b) (next named bytes i h) ∙ p .1 in
-      record { found = n .found ∙ (ap (inSlots b) (next named bytes i h) ∙ p .0); place = omega (arith, n .place, a) }
+      let a : slotOf b (slotsFrom named bytes (8 - i) i) ≡ suc (slotOf b (slotsFrom named bytes (8 - (i + 1)) (i + 1))) = ap (slotOf b) (next-slot named bytes 8 i h) ∙ p .1 in
+      record { found = n .found ∙ (ap (inSlots b) (next-slot named bytes 8 i h) ∙ p .0); place = omega (arith, n .place, a) }
 
   stands : (u v : Bool) (rest : List Slot) → sameBytes b (bodyIn (slotAt bytes i)) ≡ v → (u && v) ≡ true
       → (inSlots b (pick u (holds (bodyIn (slotAt bytes i))) empty ∷ rest) ≡ true) × (slotOf b (pick u (holds (bodyIn (slotAt bytes i))) empty ∷ rest) ≡ 0)
@@ -87,16 +79,15 @@ module _ (b : Body) (named : ℕ → Bool) (bytes : List ℕ) (i : ℕ) (n : Sou
   unfolding homeOf pick
   sought-here h e =
       let p = stands (named i) (sameBytes b (bodyIn (slotAt bytes i))) (slotsFrom named bytes (8 - (i + 1)) (i + 1)) refl e in
-      let f : inSlots b (slotsFrom named bytes 8 0) ≡ true = n .found ∙ (ap (inSlots b) (next named bytes i h) ∙ p .0) in
-      let a : slotOf b (slotsFrom named bytes (8 - i) i) ≡ 0 = ap (slotOf b) (next named bytes i h) ∙ p .1 in
+      let f : inSlots b (slotsFrom named bytes 8 0) ≡ true = n .found ∙ (ap (inSlots b) (next-slot named bytes 8 i h) ∙ p .0) in
+      let a : slotOf b (slotsFrom named bytes (8 - i) i) ≡ 0 = ap (slotOf b) (next-slot named bytes 8 i h) ∙ p .1 in
       let c : slotOf b (slotsFrom named bytes 8 0) ≡ i = omega (arith, n .place, a) in
       rw (f, c) refl
 
   pub sought-none : 8 ≤ i → emptyHome (slotsFrom named bytes 8 0) ≡ homeOf b (slotsFrom named bytes 8 0)
-  unfolding inSlots slotsFrom homeOf pick
+  unfolding inSlots homeOf pick
   sought-none h =
-      let e : 8 - i ≡ 0 = omega arith in
-      let a : inSlots b (slotsFrom named bytes (8 - i) i) ≡ false = rw e refl in
+      let a : inSlots b (slotsFrom named bytes (8 - i) i) ≡ false = rw (no-slot named bytes 8 i h) refl in
       rw (n .found ∙ a) refl
 
 -- ---- slots cleared one after the other

@@ -17,6 +17,7 @@ use Rattle.segments.specs.Segments.{isNamed}
 use Rattle.store.specs.Store.{Body, Slot, empty, holds, bodyIn, slotAt}
 use Rattle.reference.specs.Model.{inSlots}
 use Rattle.reference.specs.Sound.{noTwoAlike, slotSound, slotsFrom, slotsSound, sound}
+use Rattle.reference.proofs.SlotLaws.{next-slot, no-slot}
 use Rattle.soundness.specs.Judgements.{layoutJudged, layoutNamed, notRead}
 
 pub slots-next : (t : Table) (store : List ℕ) (n i : ℕ) → i < n
@@ -46,30 +47,24 @@ slot-alike false c ss = refl
 
 pub held-next : (t : Table) (store : List ℕ) (x : Body) (n i : ℕ) → i < n
     → inSlots x (slotsFrom (isNamed t) store (n - i) i) ≡ ((isNamed t i && sameBytes x (bodyIn (slotAt store i))) || inSlots x (slotsFrom (isNamed t) store (n - (i + 1)) (i + 1)))
-unfolding slotsFrom
 held-next t store x n i h =
-    let e : n - i ≡ suc (n - (i + 1)) = omega arith in
-    rw (e, add-one i) (slot-or (isNamed t i) x (bodyIn (slotAt store i)) (slotsFrom (isNamed t) store (n - suc i) (suc i)))
+    ap (inSlots x) (next-slot (isNamed t) store n i h)
+    ∙ slot-or (isNamed t i) x (bodyIn (slotAt store i)) (slotsFrom (isNamed t) store (n - (i + 1)) (i + 1))
 
 pub held-none : (t : Table) (store : List ℕ) (x : Body) (n i : ℕ) → n ≤ i → inSlots x (slotsFrom (isNamed t) store (n - i) i) ≡ false
-unfolding slotsFrom inSlots
-held-none t store x n i h =
-    let e : n - i ≡ 0 = omega arith in
-    rw e
+unfolding inSlots
+held-none t store x n i h = ap (inSlots x) (no-slot (isNamed t) store n i h)
 
 pub alike-next : (t : Table) (store : List ℕ) (n i : ℕ) → i < n
     → noTwoAlike (slotsFrom (isNamed t) store (n - i) i)
     ≡ (not (isNamed t i && inSlots (bodyIn (slotAt store i)) (slotsFrom (isNamed t) store (n - (i + 1)) (i + 1))) && noTwoAlike (slotsFrom (isNamed t) store (n - (i + 1)) (i + 1)))
-unfolding slotsFrom
 alike-next t store n i h =
-    let e : n - i ≡ suc (n - (i + 1)) = omega arith in
-    rw (e, add-one i) (slot-alike (isNamed t i) (bodyIn (slotAt store i)) (slotsFrom (isNamed t) store (n - suc i) (suc i)))
+    ap noTwoAlike (next-slot (isNamed t) store n i h)
+    ∙ slot-alike (isNamed t i) (bodyIn (slotAt store i)) (slotsFrom (isNamed t) store (n - (i + 1)) (i + 1))
 
 pub alike-none : (t : Table) (store : List ℕ) (n i : ℕ) → n ≤ i → noTwoAlike (slotsFrom (isNamed t) store (n - i) i) ≡ true
-unfolding slotsFrom noTwoAlike
-alike-none t store n i h =
-    let e : n - i ≡ 0 = omega arith in
-    rw e
+unfolding noTwoAlike
+alike-none t store n i h = ap noTwoAlike (no-slot (isNamed t) store n i h)
 
 -- ---- one slot more
 

@@ -1,14 +1,13 @@
 -- Laws of a push onto a list: the last segment is joined or another stands behind it, in a list and in 32 places.
-use Prim.Native.Nat.{ℕ, _+_, _-_, _≤_, _<_, min}
+use Prim.Native.Nat.{ℕ, _+_, _-_, _≤_, _<_}
 use mathlib.Core.Path.{_≡_, refl, sym, ap, _∙_}
 use mathlib.Core.Bool.{Bool, true, false}
 use mathlib.Core.List.{List, [], _∷_, _++_, append-nil, append-assoc}
 use native.Mathlib.Omega.{arith}
-use native.Mathlib.Decide.{decLe}
 use native.Mathlib.Numerals.{add-one}
 use borrow.Author.Tests.{eq-eqb, ne-eqb}
 use lib.ListN.{length, take, getD, set, replicate, length-append, length-set, List·getD-append}
-use lib.Seq.{take-suc, take-all}
+use lib.Seq.{take-suc}
 use Rattle.base.specs.Answer.{pick}
 use Rattle.base.specs.Lists.{padded}
 use Rattle.base.proofs.ListLaws.{padded-next, padded-set}
@@ -102,14 +101,6 @@ pub parts-next : (g : Segment → List Segment) (l : List Segment) (i : ℕ) (e 
 unfolding parts
 parts-next g l i e h =
     rw (add-one i, take-suc l i e h, parts-append g (take i l) (getD l i e ∷ [])) (ap (λ (r : List Segment). parts g (take i l) ++ r) (append-nil (g (getD l i e))))
-
--- a count above the length counts as the length
-pub take-within : (l : List Segment) (n m : ℕ) → length l ≡ 32 → m ≡ min n 32 → take m l ≡ take n l
-take-within l n m h e = go (decLe n 32)
-  where
-    go : Dec (n ≤ 32) → take m l ≡ take n l
-    go (yes k) = let f : m ≡ n = omega arith in rw f
-    go (no k) = take-all m l (omega arith) ∙ sym (take-all n l (omega arith))
 
 -- ---- when segments touch
 

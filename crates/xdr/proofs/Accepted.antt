@@ -119,3 +119,10 @@ opaque-read lo hi s at v p h =
     let e : r .item ≡ v .len = ap (λ (x : Part). x .len) (sym (b .value)) in
     let f : r .next ≡ at + 4 = n .number .end in
     record { count = rw (e, f) at n; bytes = rw (e, f) at b }
+
+-- the bytes of an item stand inside the body
+pub opaque-within : (lo hi : ℕ) (s : List ℕ) (at : ℕ) (v : Part) (p : ℕ) → opaqueAt lo hi s at ≡ ok v p → v .start + v .len ≤ length s
+opaque-within lo hi s at v p h =
+    let b = opaque-read lo hi s at v p h .bytes in
+    let e : v .start ≡ at + 4 = ap (λ (x : Part). x .start) (b .value) in
+    omega (arith, b .end, b .within)

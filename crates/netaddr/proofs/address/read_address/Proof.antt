@@ -1,7 +1,7 @@
 -- `netaddr::address::read_address` meets its contract: the netid, the address, then the netid's class. `k1` and `k2` are the places after them.
 use Prim.Native.Nat.{_+_, _-_}
-use Rattle.netaddr.proofs.AddressLaws.{part-within}
 use Rattle.netaddr.specs.Addresses.{addressAt}
+use Rattle.xdr.proofs.Accepted.{opaque-within}
 use Rattle.xdr.proofs.Steps.{came, handed}
 use Rattle.xdr.specs.Answers.{resOfPart}
 use Rattle.xdr.specs.Res.{then}
@@ -51,7 +51,7 @@ returns-2 c =
 add-end : tie.Need-add-end
 add-end c =
     let k1 = c .before .before .before .before .before in
-    omega (arith, part-within 1 8 _ _ _ _ (came resOfPart (k1 .before .before .before .read-opaque .ensures) (k1 .before .first .given .1)))
+    omega (arith, opaque-within 1 8 _ _ _ _ (came resOfPart (k1 .before .before .before .read-opaque .ensures) (k1 .before .first .given .1)))
 
 sub-class-of : tie.Need-sub-class-of
 sub-class-of c = search needs
@@ -62,7 +62,7 @@ part-class-of-start c = search needs
 part-class-of-end : tie.Need-part-class-of-end
 part-class-of-end c =
     let k1 = c .before .before .before .before .before in
-    omega (arith, part-within 1 8 _ _ _ _ (came resOfPart (k1 .before .before .before .read-opaque .ensures) (k1 .before .first .given .1)))
+    omega (arith, opaque-within 1 8 _ _ _ _ (came resOfPart (k1 .before .before .before .read-opaque .ensures) (k1 .before .first .given .1)))
 
 class-of-requires : tie.Need-class-of-requires
 class-of-requires c κs = search needs

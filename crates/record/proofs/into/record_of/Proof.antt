@@ -1,8 +1,7 @@
 -- `record::into::record_of` meets its contract. The loop's invariant: the records made are those of the segments passed, in each iomode. The measure
 -- is how many are left.
 use Prim.Native.Nat.{_-_, _≤_}
-use Rattle.base.proofs.ListLaws.{mapped-long}
-use Rattle.record.proofs.MapLaws.{map-all, map-next}
+use Rattle.base.proofs.ListLaws.{map-all, map-next, mapped-long}
 use Rattle.record.specs.Records.{recordOf, segmentRecord}
 use Rattle.segments.specs.Segments.{blank}
 use borrow.Author.Needs.{needs}

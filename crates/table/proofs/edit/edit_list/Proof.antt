@@ -1,7 +1,6 @@
 -- `table::edit::edit_list` meets its contract.
-use Rattle.base.proofs.ListLaws.{mapped-long}
+use Rattle.base.proofs.ListLaws.{mapped-long, take-capped}
 use Rattle.table.proofs.DraftLaws.{edit-fits, edit-over}
-use Rattle.table.proofs.PushLists.{take-within}
 use borrow.Author.Needs.{needs}
 use borrow.Author.Tests.{not-false, not-true}
 use lib.ListN.{length}
@@ -27,14 +26,14 @@ returns-2 c =
     let a = c .before .before .before .before .before .before .args in
     let k : length (a .g .items) ≡ 32 = search (needs, mapped-long) in
     rw (sym (c .before .before .before .before .before .acts-on .ensures) ∙ not-false _ (c .before .before .before .before .if1 .left))
-    (edit-over (a .c) (a .s .first) (a .s .last) (a .g) _ (take-within (a .g .items) (a .g .count) _ k (c .before .before .used-places .ensures)) (c .before .draft-of .ensures) (c .if2 .taken))
+    (edit-over (a .c) (a .s .first) (a .s .last) (a .g) _ (take-capped (a .g .items) 32 (a .g .count) _ k (c .before .before .used-places .ensures)) (c .before .draft-of .ensures) (c .if2 .taken))
 
 returns-3 : tie.Need-returns-3
 returns-3 c =
     let a = c .before .before .before .before .before .before .before .args in
     let k : length (a .g .items) ≡ 32 = search (needs, mapped-long) in
     rw (sym (c .before .before .before .before .before .before .acts-on .ensures) ∙ not-false _ (c .before .before .before .before .before .if1 .left))
-    (edit-fits (a .c) (a .s .first) (a .s .last) (a .g) _ (take-within (a .g .items) (a .g .count) _ k (c .before .before .before .used-places .ensures)) (c .before .before .draft-of .ensures) (c .before .if2 .left))
+    (edit-fits (a .c) (a .s .first) (a .s .last) (a .g) _ (take-capped (a .g .items) 32 (a .g .count) _ k (c .before .before .before .used-places .ensures)) (c .before .before .draft-of .ensures) (c .before .if2 .left))
 
 pub edit-list-spec : {M : Type 1} → statement M
 edit-list-spec =

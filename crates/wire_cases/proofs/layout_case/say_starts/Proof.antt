@@ -25,14 +25,17 @@ slice-aggregate-say-between c = search needs
 say-between-requires : tie.Need-say-between-requires Inv-loop μ-loop
 say-between-requires c κs = search needs
 
-mul-wide : tie.Need-mul-wide Inv-loop μ-loop
-mul-wide c = search needs
+mul-wide16 : tie.Need-mul-wide16 Inv-loop μ-loop
+mul-wide16 c = search needs
 
-array-read-wide : tie.Need-array-read-wide Inv-loop μ-loop
-array-read-wide c = search needs
+array-read-wide16 : tie.Need-array-read-wide16 Inv-loop μ-loop
+array-read-wide16 c = search needs
 
-wide-requires : tie.Need-wide-requires Inv-loop μ-loop
-wide-requires c κs = search needs
+wide16-requires : tie.Need-wide16-requires Inv-loop μ-loop
+wide16-requires c κs = search needs
+
+cast-say-number : tie.Need-cast-say-number Inv-loop μ-loop
+cast-say-number c = search needs
 
 say-number-requires : tie.Need-say-number-requires Inv-loop μ-loop
 say-number-requires c κs = search needs
@@ -60,9 +63,10 @@ say-starts-spec =
     loop-holds
     slice-aggregate-say-between
     say-between-requires
-    mul-wide
-    array-read-wide
-    wide-requires
+    mul-wide16
+    array-read-wide16
+    wide16-requires
+    cast-say-number
     say-number-requires
     add-i
     loop-less

@@ -1,8 +1,7 @@
 -- `wire_record::devices::address_records` meets its contract. The loop's invariant: the places made are those of the ones passed. The measure is how many are left.
 use Prim.Native.Nat.{_-_, _≤_}
 use Rattle.netaddr.specs.Addresses.{blankAddress}
-use Rattle.base.proofs.ListLaws.{mapped-long}
-use Rattle.record.proofs.MapLaws.{map-all, map-next}
+use Rattle.base.proofs.ListLaws.{map-all, map-next, mapped-long}
 use Rattle.wire_record.specs.Devices.{addressRecord}
 use borrow.Author.Needs.{needs}
 use lib.ListN.{length, length-set, take}
