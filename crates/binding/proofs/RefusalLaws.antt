@@ -16,7 +16,7 @@ use Rattle.xdr.proofs.Accepted.{ran, same-value}
 use Rattle.numbers.specs.Numbers.{bytesFrom, sameBytes}
 use Rattle.server.specs.Servers.{handlesAt, serverAt}
 use Rattle.server.specs.declared.item.Server.{Server}
-use Rattle.layout.specs.Layouts.{Layout, layoutBody}
+use Rattle.layout.specs.Layouts.{Layout, layoutBody, startAt}
 use Rattle.layout.proofs.LayoutLaws.{start-stands}
 use Rattle.device.specs.Bodies.{Device, deviceBody}
 use Rattle.device_version.specs.Versions.{blankVersion}
@@ -121,7 +121,7 @@ pub refused-as-listed : (layout : List ℕ) (mirror stripe : ℕ) (device id : L
 unfolding boundTo given
 refused-as-listed layout mirror stripe device id set n e = bodies (layoutBody layout) refl (deviceBody device) refl e where
   servers : (l : Layout) (d : Device) → layoutBody layout ≡ accepted l → (ltb mirror (l .summary .mirrors)) ≡ true → (ltb stripe (l .summary .servers)) ≡ true
-      → serverBound layout (getD (l .starts) (mirror * 16 + stripe) 0) (d .versions) (d .versionCount) id set ≡ refused n → Listed n
+      → serverBound layout (startAt (l .starts) mirror stripe) (d .versions) (d .versionCount) id set ≡ refused n → Listed n
   servers l d h hm hs k =
       let i = start-stands layout l h mirror stripe (ltb-true _ _ hm) (ltb-true _ _ hs) in
       inr (inr (server-refused layout _ (i .next) (i .server) (d .versions) (d .versionCount) id set n (i .read) k))
@@ -130,7 +130,7 @@ refused-as-listed layout mirror stripe device id set n e = bodies (layoutBody la
       → must (ltb mirror (l .summary .mirrors)) 16
       (must (ltb stripe (l .summary .servers)) 16
       (must (leb set 15) 8
-      (serverBound layout (getD (l .starts) (mirror * 16 + stripe) 0) (d .versions) (d .versionCount) id set))) ≡ refused n
+      (serverBound layout (startAt (l .starts) mirror stripe) (d .versions) (d .versionCount) id set))) ≡ refused n
       → Listed n
   listed l d h k =
       ⊎-elim (λ a. inl a)
@@ -144,7 +144,7 @@ refused-as-listed layout mirror stripe device id set n e = bodies (layoutBody la
       must (ltb mirror (l .summary .mirrors)) 16
       (must (ltb stripe (l .summary .servers)) 16
       (must (leb set 15) 8
-      (serverBound layout (getD (l .starts) (mirror * 16 + stripe) 0) (d .versions) (d .versionCount) id set)))) ≡ refused n
+      (serverBound layout (startAt (l .starts) mirror stripe) (d .versions) (d .versionCount) id set)))) ≡ refused n
       → (layoutBody layout ≡ refused n) ⊎ ((deviceBody device ≡ refused n) ⊎ Listed n)
   bodies (accepted l) h (accepted d) k e' = inr (inr (listed l d h e'))
   bodies (accepted l) h (refused m) k e' = inr (inl (k ∙ ap refused (same-refusal m n e')))

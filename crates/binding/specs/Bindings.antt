@@ -13,7 +13,7 @@ use Rattle.xdr.specs.Items.{opaqueAt}
 use Rattle.xdr.specs.declared.Part.{Part}
 use Rattle.server.specs.Servers.{handlesAt, serverAt}
 use Rattle.server.specs.declared.item.Server.{Server}
-use Rattle.layout.specs.Layouts.{layoutBody}
+use Rattle.layout.specs.Layouts.{layoutBody, startAt}
 use Rattle.device.specs.Bodies.{deviceBody}
 use Rattle.device_version.specs.Versions.{blankVersion}
 use Rattle.device_version.specs.declared.version.Version.{Version}
@@ -83,4 +83,4 @@ boundTo layout mirror stripe device id set =
     must (ltb mirror (l .summary .mirrors)) 16
     (must (ltb stripe (l .summary .servers)) 16
     (must (leb set 15) 8
-    (serverBound layout (getD (l .starts) (mirror * 16 + stripe) 0) (d .versions) (d .versionCount) id set)))
+    (serverBound layout (startAt (l .starts) mirror stripe) (d .versions) (d .versionCount) id set)))

@@ -11,12 +11,6 @@ ghost use mathlib.Core.Path.{_≡_};
 ghost use Rattle.binding.specs.Bindings.{boundTo};
 ghost use Rattle.binding.specs.Answers.{answerOfBinding};
 
-fn wide(x: u16) -> usize
-    ensures { λ r. ⌜ r ≡ x ⌝ }
-{
-    x as usize
-}
-
 // The device body was fetched under id; supported is the caller's set of versions.
 pub fn bind(
     layout: &[u8],
@@ -39,19 +33,17 @@ pub fn bind(
     let DeviceAnswer::Counts(_, count) = b else {
         return Binding::Refused(Refusal::Fault(device::why_device(b)));
     };
-    let m = mirror.0;
-    let k = stripe.0;
-    if summary.mirrors <= m {
+    if summary.mirrors <= mirror.0 {
         return Binding::Refused(Refusal::BeyondLayout);
     }
-    if summary.servers <= k {
+    if summary.servers <= stripe.0 {
         return Binding::Refused(Refusal::BeyondLayout);
     }
     if 15 < supported {
         return Binding::Refused(Refusal::Fault(Fault::OutsideLimit));
     }
-    let i = (m * 16 + k) as usize;
-    let start = wide(l.starts[i]);
+    let starts = l.starts;
+    let start = layout::start_of(starts, mirror, stripe) as usize;
     let versions = d.versions;
     bind_server(layout, start, versions, count, id, supported)
 }

@@ -8,7 +8,7 @@ use lib.Dec.{eqb}
 use lib.ListN.{getD, length}
 use Rattle.numbers.specs.Numbers.{beValue, bytesFrom}
 use Rattle.xdr.specs.Res.{ok}
-use Rattle.server.specs.Servers.{serverAt}
+use Rattle.server.specs.Servers.{efficiencyOffset, handlesOffset, serverAt, stateidOffset}
 use Rattle.server.specs.declared.item.Server.{Server}
 use Rattle.segments.specs.declared.Right.the-variants.{Granted}
 use Rattle.segments.specs.declared.Table.{Table}
@@ -22,15 +22,15 @@ abbrev pub isOneOf : ℕ → List ℕ → Bool
 isOneOf n [] = false
 isOneOf n (k ∷ ks) = eqb n k || isOneOf n ks
 
--- a data server is read at this place, and its fields stand where RFC 8435 has them
+-- a data server is read at this place, and its fields stand where RFC 8435 has them: 16, 20 and 36 bytes on
 pub record ServerStands (s : List ℕ) (at : ℕ) : Type 0 where
   pub server : Server
   pub next : ℕ
   pub read : serverAt s at ≡ ok server next
   pub device : server .device ≡ at
-  pub efficiency : server .efficiency ≡ beValue (bytesFrom 4 s (at + 16))
-  pub stateid : server .stateid ≡ at + 20
-  pub handles : server .handles ≡ beValue (bytesFrom 4 s (at + 36))
+  pub efficiency : server .efficiency ≡ beValue (bytesFrom 4 s (at + efficiencyOffset))
+  pub stateid : server .stateid ≡ at + stateidOffset
+  pub handles : server .handles ≡ beValue (bytesFrom 4 s (at + handlesOffset))
 
 -- a piece lies in one segment of the iomode that it names, granted under the slot that it names; for a write that iomode is RW. It ends with the
 -- request, with that segment, or with its stripe unit

@@ -18,7 +18,7 @@ ghost use Rattle.base.specs.Answer.{accepted, refused, given};
 ghost use Rattle.base.specs.Bits.{bit};
 ghost use Rattle.numbers.specs.Numbers.{AllBytes, beBytes, beValue};
 ghost use Rattle.server.specs.declared.item.Server.{Server};
-ghost use Rattle.layout.specs.Layouts.{Layout, layoutBody, startsOf};
+ghost use Rattle.layout.specs.Layouts.{Layout, layoutBody, startAt, startsOf};
 ghost use Rattle.layout4.specs.Layout4s.{Whole, layout4};
 ghost use Rattle.device.specs.Bodies.{deviceBody};
 ghost use Rattle.binding.specs.Bindings.{boundTo};
@@ -142,7 +142,7 @@ pub fn pieces_go_to_their_stripe()
 // At each used start of an accepted body stands a data server, its device id, efficiency, stateid and filehandle count where RFC 8435 has them.
 pub fn starts_are_servers()
     ensures { λ r. ⌜ ((s : List ℕ) (l : Layout) → layoutBody s ≡ accepted l
-        → (m k : ℕ) → m < l .summary .mirrors → k < l .summary .servers → ServerStands s (getD (l .starts) (m * 16 + k) 0)) ⌝ }
+        → (m k : ℕ) → m < l .summary .mirrors → k < l .summary .servers → ServerStands s (startAt (l .starts) m k)) ⌝ }
 {}
 
 // ---- Demand 3: the table is the reference model's
@@ -221,7 +221,7 @@ pub fn starts_are_by_mirror_and_stripe()
 // "with 0 in unused places".
 pub fn other_starts_are_zero()
     ensures { λ r. ⌜ ((s : List ℕ) (l : Layout) → layoutBody s ≡ accepted l
-        → (m k : ℕ) → k < 16 → (l .summary .mirrors ≤ m) ⊎ (l .summary .servers ≤ k) → getD (l .starts) (m * 16 + k) 0 ≡ 0) ⌝ }
+        → (m k : ℕ) → k < 16 → (l .summary .mirrors ≤ m) ⊎ (l .summary .servers ≤ k) → startAt (l .starts) m k ≡ 0) ⌝ }
 {}
 
 // "The smallest accepted body has 80 bytes"; of layout4 "The smallest has 108 bytes": no accepted one has fewer, and one has so many. "By these counts a body

@@ -1,5 +1,4 @@
 // What a chart shows.
-ghost use Prim.Native.Nat.{_<_};
 use crate::columns::Columns;
 use base::MirrorNumber;
 use base::StripeNumber;
@@ -13,23 +12,14 @@ pub struct Subject {
     pub columns: Columns,
 }
 
-fn wide(x: u16) -> usize
-    ensures { λ r. ⌜ r < 65536 ⌝ }
-{
-    x as usize
-}
-
 // Where in the file the device id of a mirror's server stands.
 pub(crate) fn device_at(s: Subject, m: MirrorNumber, k: StripeNumber) -> usize {
     let layout = s.layout;
     let body = layout.body;
     let start = body.start;
-    let i = m.0 as usize * 16 + k.0 as usize;
-    if 128 <= i {
-        return start;
-    }
     if 65536 < start {
         return start;
     }
-    start + wide(s.starts[i])
+    let starts = s.starts;
+    start + layout::start_of(starts, m, k) as usize
 }

@@ -9,7 +9,7 @@ use Rattle.base.specs.Iomodes.{grantIomodeOf, iomodeOf}
 use Rattle.base.specs.Lists.{Each, padded}
 use Rattle.base.specs.Ranges.{rangeLast, requestLast}
 use Rattle.base.proofs.AnswerLaws.{both}
-use Rattle.layout.specs.Layouts.{frontAt, layoutAt, layoutBody, mirrorAt, mirrorsAt, rows, startsOf, tailAt, unitFits}
+use Rattle.layout.specs.Layouts.{frontAt, layoutAt, layoutBody, mirrorAt, mirrorsAt, rows, startAt, startsOf, tailAt, unitFits}
 use Rattle.layout4.specs.Layout4s.{frameAt, layout4, layout4At, rangeAt}
 use Rattle.numbers.specs.Numbers.{allZero, beAt, beBytes, beFrom, beValue, leAt, leBytes, leValue, sameBytes}
 use Rattle.reference.specs.Cases.{bodyOf, grantBytes, servers}
@@ -58,7 +58,7 @@ all-in-full (Range offset len last ∷ xs) s h = (h .0, all-in-full xs s (h .1))
 all-in-full (NoReport bytes ∷ xs) s h = (h .0, all-in-full xs s (h .1))
 
 examples-short : Each HoldsShort examples
-unfolding given pick grantIomodeOf iomodeOf padded rangeLast requestLast frontAt layoutAt layoutBody mirrorAt mirrorsAt rows startsOf tailAt unitFits frameAt layout4 layout4At rangeAt beAt beBytes beFrom beValue leAt leBytes leValue sameBytes bodyOf grantBytes servers act afterAt answerTo answers anyByte covers grantOrder ifNamed inLowest inSlots meets modelAfter noneEmpty own rangeOrder run segmentsIn slotOf tooMany verdict allBlank apart apartFromNext inOrder isFit noTwoAlike segmentsSound slotSound slotsFrom slotsIn slotsSound sound errorFits allFit bodyBytes bodyWritten counts errorBytes errorsBytes fitted headBytes judged judgedOne reportsBytes reportsWritten best bestMirror efficiencyOf grantIn layoutIn mirrorsNamed pieceAt routed served pieceLength stripeOf unitRest anyBelow anyNames inFront inPlaces isNamed scan segmentsOf withByte handlesAt headAt serverAt bodyIn kindIn lengthIn slotBytes storeOf allZero bytesAt countAt numAt opaqueAt asItem manyAt then whole
+unfolding given pick grantIomodeOf iomodeOf padded rangeLast requestLast frontAt layoutAt layoutBody mirrorAt mirrorsAt rows startAt startsOf tailAt unitFits frameAt layout4 layout4At rangeAt beAt beBytes beFrom beValue leAt leBytes leValue sameBytes bodyOf grantBytes servers act afterAt answerTo answers anyByte covers grantOrder ifNamed inLowest inSlots meets modelAfter noneEmpty own rangeOrder run segmentsIn slotOf tooMany verdict allBlank apart apartFromNext inOrder isFit noTwoAlike segmentsSound slotSound slotsFrom slotsIn slotsSound sound errorFits allFit bodyBytes bodyWritten counts errorBytes errorsBytes fitted headBytes judged judgedOne reportsBytes reportsWritten best bestMirror efficiencyOf grantIn layoutIn mirrorsNamed pieceAt routed served pieceLength stripeOf unitRest anyBelow anyNames inFront inPlaces isNamed scan segmentsOf withByte handlesAt headAt serverAt bodyIn kindIn lengthIn slotBytes storeOf allZero bytesAt countAt numAt opaqueAt asItem manyAt then whole
 examples-short = (refl, (refl, (refl, (refl, (refl, (refl, ((refl, refl, refl), ((refl, refl, refl), ((refl, refl, refl), ((refl, refl, refl), (refl, (refl, ((refl, refl, refl), (refl, tt))))))))))))))
 
 examples-stay : stayShort examples ≡ true

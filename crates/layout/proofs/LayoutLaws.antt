@@ -4,10 +4,12 @@ use mathlib.Core.Path.{_≡_, refl, sym, ap, _∙_}
 use mathlib.Core.Logic.{_⊎_, ⊎-elim}
 use mathlib.Core.Bool.{true}
 use mathlib.Core.List.{List, [], _∷_, map}
+use native.Mathlib.Decide.{decLt}
 use native.Mathlib.Omega.{arith}
+use borrow.Author.Tests.{le-ltb, lt-ltb}
 use lib.ListN.{length, getD, length-map, List·getD-append, List·getD-eq-default}
 use lib.Seq.{getD-append-add}
-use Rattle.base.specs.Answer.{accepted}
+use Rattle.base.specs.Answer.{accepted, pick}
 use Rattle.base.specs.Lists.{Each, padded}
 use Rattle.base.proofs.ListLaws.{each-at, each-map, length-padded, padded-at}
 use Rattle.base.proofs.AnswerLaws.{pick-accepted}
@@ -17,7 +19,7 @@ use Rattle.xdr.proofs.ManyLaws.{many-each}
 use Rattle.server.specs.Servers.{serverAt}
 use Rattle.server.specs.declared.item.Server.{Server}
 use Rattle.server.proofs.ServerLaws.{server-read}
-use Rattle.layout.specs.Layouts.{Layout, frontAt, layoutAt, layoutBody, mirrorAt, mirrorsAt, rows, startsOf, tailAt, unitFits}
+use Rattle.layout.specs.Layouts.{Layout, frontAt, layoutAt, layoutBody, mirrorAt, mirrorsAt, rows, startAt, startsOf, tailAt, unitFits}
 use Rattle.layout.specs.declared.ends.Front.{Front}
 use Rattle.layout.specs.declared.ends.Tail.{Tail}
 use Rattle.layout.proofs.FrontLaws.{front-read}
@@ -159,6 +161,25 @@ all-stand mirrors servers s at ms p some e m k hm hk =
     let j : k < length (starts row) = omega (arith, length-map row (λ (v : Server). v .device)) in
     each-at (Stands s) (starts row) k 0 (each-at (Standing s) ms m [] (mirrors-stand mirrors servers s at ms p e) i) j
 
+-- ---- one start out of the table
+
+module _ (table : List ℕ) (m k : ℕ) where
+  -- a stripe's start stands at mirror times 16 plus stripe
+  pub start-at : k < 16 → startAt table m k ≡ getD table (m * 16 + k) 0
+  unfolding startAt pick
+  start-at h = rw (lt-ltb k 16 h)
+
+  pub no-start-of-stripe : 16 ≤ k → startAt table m k ≡ 0
+  unfolding startAt pick
+  no-start-of-stripe h = rw (le-ltb k 16 h)
+
+  pub no-start-of-mirror : length table ≡ 128 → 8 ≤ m → startAt table m k ≡ 0
+  no-start-of-mirror e h = go (decLt k 16)
+    where
+      go : Dec (k < 16) → startAt table m k ≡ 0
+      go (yes s) = start-at s ∙ List·getD-eq-default table 0 (omega arith)
+      go (no s) = no-start-of-stripe (omega arith)
+
 -- the place of mirror m and stripe k in the table
 place-of : (s : List ℕ) (l : Layout) (h : layoutBody s ≡ accepted l) (m k : ℕ) → k < 16
     → getD (l .starts) (m * 16 + k) 0 ≡ getD (starts (getD (accepted-parts s l h .mirrors) m [])) k 0
@@ -171,21 +192,22 @@ place-of s l h m k small =
 
 -- at each used start stands a data server: its device id there, efficiency 16 bytes on, stateid 20, filehandle count 36 (`server-read`)
 pub start-stands : (s : List ℕ) (l : Layout) → layoutBody s ≡ accepted l
-    → (m k : ℕ) → m < l .summary .mirrors → k < l .summary .servers → Stands s (getD (l .starts) (m * 16 + k) 0)
+    → (m k : ℕ) → m < l .summary .mirrors → k < l .summary .servers → Stands s (startAt (l .starts) m k)
 start-stands s l h m k hm hk =
     let p = accepted-parts s l h in
     let n = accepted-limits s l h in
     let em : p .front .mirrors ≡ l .summary .mirrors = ap (λ (x : Layout). x .summary .mirrors) (p .whole) in
     let en : p .front .servers ≡ l .summary .servers = ap (λ (x : Layout). x .summary .servers) (p .whole) in
     let i = all-stand (p .front .mirrors) (p .front .servers) s (p .p1) (p .mirrors) (p .p2) (omega (arith, n .mirrors-some)) (p .mirrors-read) m k (omega arith) (omega arith) in
-    let g = place-of s l h m k (omega (arith, n .servers-few)) in
+    let few : k < 16 = omega (arith, n .servers-few) in
+    let g = start-at (l .starts) m k few ∙ place-of s l h m k few in
     moved (sym g) i
 
 -- ---- unused places
 
 -- a place beyond the mirrors, or beyond a mirror's servers, holds 0
 pub start-unused : (s : List ℕ) (l : Layout) → layoutBody s ≡ accepted l
-    → (m k : ℕ) → k < 16 → (l .summary .mirrors ≤ m) ⊎ (l .summary .servers ≤ k) → getD (l .starts) (m * 16 + k) 0 ≡ 0
+    → (m k : ℕ) → k < 16 → (l .summary .mirrors ≤ m) ⊎ (l .summary .servers ≤ k) → startAt (l .starts) m k ≡ 0
 start-unused s l h m k small beyond =
     let p = accepted-parts s l h in
     let f = front-read s 0 (p .front) (p .p1) (p .front-read) in
@@ -200,4 +222,4 @@ start-unused s l h m k small beyond =
     (λ b. let z : length (p .mirrors) ≤ m = omega (arith, r .count) in let e : row ≡ [] = List·getD-eq-default (p .mirrors) [] z in omega (arith, ap length e))
     (λ b. omega arith)
     beyond in
-    place-of s l h m k small ∙ List·getD-eq-default (starts row) 0 none
+    start-at (l .starts) m k small ∙ place-of s l h m k small ∙ List·getD-eq-default (starts row) 0 none

@@ -1,11 +1,12 @@
 -- ff_layout4 and ff_mirror4 of RFC 8435, 5.1.
 -- "Layout body: stripe unit (8); mirror count (4) and mirrors; flags (4); statistics hint (4, any). A mirror: server count (4) and servers."
-use Prim.Native.Nat.{ℕ, _-_}
+use Prim.Native.Nat.{ℕ, _+_, _-_, _*_}
 use mathlib.Core.Bool.{Bool}
 use mathlib.Core.List.{List, [], _∷_, _++_, map}
-use lib.ListN.{length}
-use lib.Dec.{leb, eqb}
+use lib.ListN.{length, getD}
+use lib.Dec.{leb, ltb, eqb}
 use Rattle.base.specs.Answer.{Answer, refused, pick}
+use Rattle.base.specs.Limits.{mostServers}
 use Rattle.base.specs.Lists.{padded}
 use Rattle.xdr.specs.Res.{Res, ok, no, then, manyAt, whole}
 use Rattle.xdr.specs.Items.{countAt, numAt}
@@ -52,6 +53,11 @@ rows (m ∷ ms) = padded 16 0 (map (λ v. v .device) m) ++ rows ms
 -- "says where each server starts, by mirror and by stripe, as byte offsets from the body's first byte, with 0 in unused places"
 unfoldable pub startsOf : List (List Server) → List ℕ
 startsOf mirrors = padded 128 0 (rows mirrors)
+
+-- where a mirror's server of a stripe starts, in such a table: 0 beyond its places, and no stripe reaches into the next
+-- mirror's
+unfoldable pub startAt : List ℕ → ℕ → ℕ → ℕ
+startAt starts mirror stripe = pick (ltb stripe mostServers) (getD starts (mirror * mostServers + stripe) 0) 0
 
 -- "The reader's summary": the numbers, and where each server starts
 pub record Layout : Type 0 where

@@ -1,13 +1,14 @@
 -- Which mirrors an I/O names.
-use Prim.Native.Nat.{ℕ, _+_, _-_, _*_, _^_}
+use Prim.Native.Nat.{ℕ, _+_, _-_, _^_}
 use mathlib.Core.List.{List}
-use lib.ListN.{getD}
 use Rattle.base.specs.Best.{best}
 use Rattle.numbers.specs.Numbers.{beAt}
+use Rattle.server.specs.Servers.{efficiencyOffset}
+use Rattle.layout.specs.Layouts.{startAt}
 
--- the efficiency of mirror m's server of a stripe, which stands 16 bytes behind the server's start
+-- the efficiency of mirror m's server of a stripe
 unfoldable pub efficiencyOf : List ℕ → List ℕ → ℕ → ℕ → ℕ
-efficiencyOf body starts stripe m = beAt 4 body (getD starts (m * 16 + stripe) 0 + 16)
+efficiencyOf body starts stripe m = beAt 4 body (startAt starts m stripe + efficiencyOffset)
 
 -- "the highest efficiency, lowest number on a tie", by the servers of one stripe
 unfoldable pub bestMirror : List ℕ → List ℕ → ℕ → ℕ → ℕ

@@ -41,7 +41,8 @@ grantOf iomode (Recalled s) last = refused 17
 
 unfoldable pub grantIn : Iomode → List Segment → ℕ → Answer Grant
 grantIn iomode [] x = refused 17
-grantIn iomode (s ∷ l) x = pick (within (s .first) (s .last) x) (grantOf iomode (s .right) (s .last)) (grantIn iomode l x)
+grantIn iomode (s ∷ l) x =
+    pick (within (s .first) (s .last) x) (grantOf iomode (s .right) (s .last)) (grantIn iomode l x)
 
 abbrev pub grantAt : Table → Mode → ℕ → Answer Grant
 grantAt t m x = grantIn (iomodeFor m) (listIn t m) x
@@ -53,7 +54,8 @@ abbrev pub orElse : {A : Type 0} → Answer A → Answer A → Answer A
 orElse (accepted a) next = accepted a
 orElse (refused n) next = next
 
--- "A write needs RW granted. A read needs READ granted, or RW granted ..; where both serve at its first byte, READ is used."
+-- "A write needs RW granted. A read needs READ granted, or RW granted ..; where both serve at its first byte, READ is
+-- used."
 abbrev pub servingGrant : Bool → Table → ℕ → Answer Grant
 servingGrant true t x = grantAt t RW x
 servingGrant false t x = orElse (grantAt t READ x) (grantAt t RW x)

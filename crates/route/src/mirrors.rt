@@ -8,20 +8,12 @@ ghost use Prim.Native.Nat.{_^_, _≤_, _<_};
 ghost use Rattle.route.specs.Mirrors.{bestMirror, efficiencyOf};
 ghost use Rattle.route.specs.Routes.{mirrorsNamed, oneMirror};
 
-fn wide(x: u16) -> usize
-    ensures { λ r. ⌜ (r ≡ x) × (r < 65536) ⌝ }
-{
-    x as usize
-}
-
 // The efficiency of a mirror's server of a stripe.
 fn efficiency(body: &[u8], starts: [u16; 128], stripe: StripeNumber, m: MirrorNumber) -> u32
-    requires { ⌜ (stripe .0 < 16) × (m .0 < 8) ⌝ }
     ensures { λ r. ⌜ r ≡ efficiencyOf (now (body .entry)) starts (stripe .0) (m .0) ⌝ }
 {
-    let i = m.0 as usize * 16 + stripe.0 as usize;
-    let start = wide(starts[i]);
-    numbers::be4(body, start + 16)
+    let start = layout::start_of(starts, m, stripe) as usize;
+    numbers::be4(body, start + server::EFFICIENCY_OFFSET)
 }
 
 // The mirror with the highest efficiency, the lowest number on a tie, by the servers of one stripe.
@@ -31,7 +23,7 @@ pub(crate) fn best_mirror(
     mirrors: u32,
     stripe: StripeNumber,
 ) -> MirrorNumber
-    requires { ⌜ (1 ≤ mirrors) × (mirrors ≤ 8) × (stripe .0 < 16) ⌝ }
+    requires { ⌜ 1 ≤ mirrors ⌝ }
     ensures { λ r. ⌜ (r .0 ≡ bestMirror (now (body .entry)) starts mirrors (stripe .0)) × (r .0 < mirrors) ⌝ }
 {
     let mut best: u32 = 0;

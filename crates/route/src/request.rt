@@ -29,7 +29,8 @@ pub struct Serving {
 
 // The answer to a request that is served.
 fn piece_at(write: bool, store: &[u8], offset: u64, len: u64, v: Serving) -> Piece
-    requires { ⌜ (1 ≤ len) × (offset ≤ v .grant .last) × (1 ≤ v .summary .mirrors) × (v .summary .mirrors ≤ mostMirrors)
+    requires { ⌜ (1 ≤ len) × (offset ≤ v .grant .last)
+        × (1 ≤ v .summary .mirrors) × (v .summary .mirrors ≤ mostMirrors)
         × (1 < v .summary .servers → 0 < v .summary .unit) ⌝ }
     ensures { λ r. ⌜ r ≡ pieceAt write (now (store .entry)) offset len (servingOf v) ⌝ }
 {

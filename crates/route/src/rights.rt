@@ -61,7 +61,8 @@ fn grant_in(iomode: Iomode, g: Segments, x: u64) -> GrantAnswer
     GrantAnswer::Missing
 }
 
-// "A write needs RW granted. A read needs READ granted, or RW granted ..; where both serve at its first byte, READ is used."
+// "A write needs RW granted. A read needs READ granted, or RW granted ..; where both serve at its first byte, READ is
+// used."
 pub(crate) fn serving_grant(write: bool, t: Table, x: u64) -> GrantAnswer
     ensures { λ r. ⌜ answerOfGrant r ≡ servingGrant write t x ⌝ }
 {

@@ -8,16 +8,16 @@ use Rattle.numbers.specs.Numbers.{bytesFrom, beValue}
 use Rattle.xdr.specs.Res.{ok}
 use Rattle.xdr.specs.declared.Part.{Part}
 use Rattle.xdr.proofs.Accepted.{ran, same-place, same-value, number-read, count-read, bytes-read, opaque-read}
-use Rattle.server.specs.Servers.{headAt, serverAt}
+use Rattle.server.specs.Servers.{efficiencyOffset, handlesOffset, headAt, serverAt, stateidOffset}
 use Rattle.server.specs.declared.head.ServerHead.{ServerHead}
 use Rattle.server.specs.declared.item.Server.{Server}
 
 -- the device id stands at the start, then the efficiency, the stateid and the number of filehandles
 pub record Head (s : List ℕ) (at : ℕ) (v : ServerHead) (p : ℕ) : Type 0 where
   pub device : v .device ≡ at
-  pub efficiency : v .efficiency ≡ beValue (bytesFrom 4 s (at + 16))
-  pub stateid : v .stateid ≡ at + 20
-  pub handles : v .handles ≡ beValue (bytesFrom 4 s (at + 36))
+  pub efficiency : v .efficiency ≡ beValue (bytesFrom 4 s (at + efficiencyOffset))
+  pub stateid : v .stateid ≡ at + stateidOffset
+  pub handles : v .handles ≡ beValue (bytesFrom 4 s (at + handlesOffset))
   pub some : 1 ≤ v .handles
   pub few : v .handles ≤ 8
   pub end : p ≡ at + 40
@@ -36,9 +36,9 @@ head-read s at v p h =
     let nc = count-read 1 8 s (t .next) (n .item) (n .next) (n .first) in
     let f : n .next ≡ p = same-place (n .rest) in
     let g = same-value (n .rest) in
-    let q1 : d .next ≡ at + 16 = omega (arith, db .end) in
-    let q2 : e .next ≡ at + 20 = omega (arith, en .end) in
-    let q3 : t .next ≡ at + 36 = omega (arith, tb .end) in
+    let q1 : d .next ≡ at + efficiencyOffset = omega (arith, db .end) in
+    let q2 : e .next ≡ at + stateidOffset = omega (arith, en .end) in
+    let q3 : t .next ≡ at + handlesOffset = omega (arith, tb .end) in
     let hv : n .item ≡ v .handles = ap (λ (x : ServerHead). x .handles) g in
     record {
       device = ap (λ (x : ServerHead). x .device) (sym g) ∙ ap (λ (x : Part). x .start) (db .value);
@@ -53,9 +53,9 @@ head-read s at v p h =
 
 pub record Read (s : List ℕ) (at : ℕ) (v : Server) (p : ℕ) : Type 0 where
   pub device : v .device ≡ at
-  pub efficiency : v .efficiency ≡ beValue (bytesFrom 4 s (at + 16))
-  pub stateid : v .stateid ≡ at + 20
-  pub handles : v .handles ≡ beValue (bytesFrom 4 s (at + 36))
+  pub efficiency : v .efficiency ≡ beValue (bytesFrom 4 s (at + efficiencyOffset))
+  pub stateid : v .stateid ≡ at + stateidOffset
+  pub handles : v .handles ≡ beValue (bytesFrom 4 s (at + handlesOffset))
   pub some : 1 ≤ v .handles
   pub few : v .handles ≤ 8
   pub first : v .«first_handle» ≡ at + 40

@@ -1,12 +1,23 @@
 -- ff_data_server4 of RFC 8435, 5.1.
 -- "A server: device id (16), efficiency (4), stateid (16: a 4-byte seqid and 12 more), filehandle count (4) and filehandles, user, group."
-use Prim.Native.Nat.{ℕ}
+use Prim.Native.Nat.{ℕ, _+_}
 use mathlib.Core.List.{List}
+use Rattle.base.specs.Limits.{deviceIdSize, stateidSize}
 use Rattle.xdr.specs.Res.{Res, ok, then, manyAt}
 use Rattle.xdr.specs.Items.{bytesAt, countAt, numAt, opaqueAt}
 use Rattle.xdr.specs.declared.Part.{Part}
 use Rattle.server.specs.declared.head.ServerHead.{ServerHead}
 use Rattle.server.specs.declared.item.Server.{Server}
+
+-- where efficiency, stateid and filehandle count stand, from the server's start
+abbrev pub efficiencyOffset : ℕ
+efficiencyOffset = deviceIdSize
+
+abbrev pub stateidOffset : ℕ
+stateidOffset = efficiencyOffset + 4
+
+abbrev pub handlesOffset : ℕ
+handlesOffset = stateidOffset + stateidSize
 
 -- "1 to 8 filehandles a server"
 unfoldable pub headAt : List ℕ → ℕ → Res ServerHead

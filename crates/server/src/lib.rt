@@ -8,3 +8,6 @@ pub use item::ReadServer;
 pub use item::Server;
 pub use item::read_server;
 pub use item::why_server;
+
+// Where a server's efficiency stands, from the server's start: behind the device id.
+pub const EFFICIENCY_OFFSET: usize = base::DEVICE_ID_SIZE;

@@ -18,7 +18,8 @@ pub struct Soundness {
     pub sound: bool,
 }
 
-// The verdict, and what the layout body in this slot reads as. The store's length is tested first, since the slots are looked at by their places.
+// The verdict, and what the layout body in this slot reads as. The store's length is tested first, since the slots are
+// looked at by their places.
 pub fn judge_and_read(t: Table, store: &[u8], slot: SlotNumber) -> Judged
     ensures { λ r. ⌜ (r .sound ≡ sound t (now (store .entry)))
         × (answerOfLayout (r .read .answer) (r .read .starts) ≡ layoutJudged t (now (store .entry)) (slot .0))

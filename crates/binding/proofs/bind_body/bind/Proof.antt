@@ -4,7 +4,6 @@ use Rattle.binding.specs.Bindings.{boundTo, must}
 use Rattle.device.proofs.AcceptedDevice.{versions-read}
 use Rattle.device.specs.Answers.{deviceOf}
 use Rattle.device.specs.declared.body.DeviceAnswer.{DeviceAnswer}
-use Rattle.layout.proofs.LayoutLaws.{accepted-limits}
 use Rattle.layout.specs.Answers.{answerOfLayout}
 use Rattle.layout.specs.declared.body.LayoutAnswer.{LayoutAnswer}
 use Rattle.xdr.proofs.Steps.{came, handed-answer-from}
@@ -13,7 +12,6 @@ use borrow.Author.Tests.{le-leb, le-ltb, lt-leb, lt-ltb}
 use denote.Ref.{now}
 use mathlib.Core.List.{[]}
 use mathlib.Core.Path.{refl}
-use native.Mathlib.Omega.{arith}
 use Rattle.binding.proofs.bind_body.bind.Statement.{statement}
 use Rattle.binding.proofs.bind_body.bind.Tie as tie
 
@@ -51,40 +49,28 @@ returns-2 c = rw (came (λ (x : LayoutAnswer). answerOfLayout x (c .before .befo
 
 returns-3 : tie.Need-returns-3
 unfolding boundTo given must pick
-returns-3 c = rw (came (λ (x : LayoutAnswer). answerOfLayout x (c .before .before .before .before .before .before .before .before .before .read-layout .result .starts)) (c .before .before .before .before .before .before .before .before .before .read-layout .ensures .0) (c .before .before .before .before .before .before .before .a .given .1), came (λ (x : DeviceAnswer). deviceOf x (c .before .before .before .before .before .read-device .result .addresses) (c .before .before .before .before .before .read-device .result .versions)) (c .before .before .before .before .before .read-device .ensures .0) (c .before .before .before .b .given .1), le-ltb _ _ (c .if1 .taken))
+returns-3 c = rw (came (λ (x : LayoutAnswer). answerOfLayout x (c .before .before .before .before .before .before .before .before .before .before .read-layout .result .starts)) (c .before .before .before .before .before .before .before .before .before .before .read-layout .ensures .0) (c .before .before .before .before .before .before .before .before .a .given .1), came (λ (x : DeviceAnswer). deviceOf x (c .before .before .before .before .before .before .read-device .result .addresses) (c .before .before .before .before .before .before .read-device .result .versions)) (c .before .before .before .before .before .before .read-device .ensures .0) (c .before .before .before .before .b .given .1), le-ltb _ _ (c .if1 .taken))
 
 returns-4 : tie.Need-returns-4
 unfolding boundTo given must pick
-returns-4 c = rw (came (λ (x : LayoutAnswer). answerOfLayout x (c .before .before .before .before .before .before .before .before .before .before .before .read-layout .result .starts)) (c .before .before .before .before .before .before .before .before .before .before .before .read-layout .ensures .0) (c .before .before .before .before .before .before .before .before .before .a .given .1), came (λ (x : DeviceAnswer). deviceOf x (c .before .before .before .before .before .before .before .read-device .result .addresses) (c .before .before .before .before .before .before .before .read-device .result .versions)) (c .before .before .before .before .before .before .before .read-device .ensures .0) (c .before .before .before .before .before .b .given .1), lt-ltb _ _ (c .before .before .if1 .left), le-ltb _ _ (c .if2 .taken))
+returns-4 c = rw (came (λ (x : LayoutAnswer). answerOfLayout x (c .before .before .before .before .before .before .before .before .before .before .before .before .before .read-layout .result .starts)) (c .before .before .before .before .before .before .before .before .before .before .before .before .before .read-layout .ensures .0) (c .before .before .before .before .before .before .before .before .before .before .before .a .given .1), came (λ (x : DeviceAnswer). deviceOf x (c .before .before .before .before .before .before .before .before .before .read-device .result .addresses) (c .before .before .before .before .before .before .before .before .before .read-device .result .versions)) (c .before .before .before .before .before .before .before .before .before .read-device .ensures .0) (c .before .before .before .before .before .before .before .b .given .1), lt-ltb _ _ (c .before .before .before .if1 .left), le-ltb _ _ (c .if2 .taken))
 
 returns-5 : tie.Need-returns-5
 unfolding boundTo given must pick
-returns-5 c = rw (came (λ (x : LayoutAnswer). answerOfLayout x (c .before .before .before .before .before .before .before .before .before .before .before .before .read-layout .result .starts)) (c .before .before .before .before .before .before .before .before .before .before .before .before .read-layout .ensures .0) (c .before .before .before .before .before .before .before .before .before .before .a .given .1), came (λ (x : DeviceAnswer). deviceOf x (c .before .before .before .before .before .before .before .before .read-device .result .addresses) (c .before .before .before .before .before .before .before .before .read-device .result .versions)) (c .before .before .before .before .before .before .before .before .read-device .ensures .0) (c .before .before .before .before .before .before .b .given .1), lt-ltb _ _ (c .before .before .before .if1 .left), lt-ltb _ _ (c .before .if2 .left), lt-leb _ _ (c .if3 .taken))
+returns-5 c = rw (came (λ (x : LayoutAnswer). answerOfLayout x (c .before .before .before .before .before .before .before .before .before .before .before .before .before .before .read-layout .result .starts)) (c .before .before .before .before .before .before .before .before .before .before .before .before .before .before .read-layout .ensures .0) (c .before .before .before .before .before .before .before .before .before .before .before .before .a .given .1), came (λ (x : DeviceAnswer). deviceOf x (c .before .before .before .before .before .before .before .before .before .before .read-device .result .addresses) (c .before .before .before .before .before .before .before .before .before .before .read-device .result .versions)) (c .before .before .before .before .before .before .before .before .before .before .read-device .ensures .0) (c .before .before .before .before .before .before .before .before .b .given .1), lt-ltb _ _ (c .before .before .before .before .if1 .left), lt-ltb _ _ (c .before .if2 .left), lt-leb _ _ (c .if3 .taken))
 
-mul-i : tie.Need-mul-i
-mul-i c = let k = accepted-limits (now (c .before .before .before .before .before .before .before .before .before .before .before .before .before .before .before .args .layout)) _ (came (λ (x : LayoutAnswer). answerOfLayout x (c .before .before .before .before .before .before .before .before .before .before .before .before .read-layout .result .starts)) (c .before .before .before .before .before .before .before .before .before .before .before .before .read-layout .ensures .0) (c .before .before .before .before .before .before .before .before .before .before .a .given .1)) in omega (arith, k .mirrors-few)
+start-of-requires : tie.Need-start-of-requires
+start-of-requires c κs = search needs
 
-add-i : tie.Need-add-i
-add-i c = let k = accepted-limits (now (c .before .before .before .before .before .before .before .before .before .before .before .before .before .before .before .args .layout)) _ (came (λ (x : LayoutAnswer). answerOfLayout x (c .before .before .before .before .before .before .before .before .before .before .before .before .read-layout .result .starts)) (c .before .before .before .before .before .before .before .before .before .before .before .before .read-layout .ensures .0) (c .before .before .before .before .before .before .before .before .before .before .a .given .1)) in omega (arith, k .mirrors-few, k .servers-few)
-
-cast-i : tie.Need-cast-i
-cast-i c = search needs
-
-mul-wide : tie.Need-mul-wide
-mul-wide c = search needs
-
-element-copy-out-wide : tie.Need-element-copy-out-wide
-element-copy-out-wide c = let k = accepted-limits (now (c .before .before .before .before .before .before .before .before .before .before .before .before .before .before .before .args .layout)) _ (came (λ (x : LayoutAnswer). answerOfLayout x (c .before .before .before .before .before .before .before .before .before .before .before .before .read-layout .result .starts)) (c .before .before .before .before .before .before .before .before .before .before .before .before .read-layout .ensures .0) (c .before .before .before .before .before .before .before .before .before .before .a .given .1)) in omega (arith, k .mirrors-few, k .servers-few)
-
-wide-requires : tie.Need-wide-requires
-wide-requires c κs = search needs
+cast-start : tie.Need-cast-start
+cast-start c = search needs
 
 bind-server-requires : tie.Need-bind-server-requires
-bind-server-requires c κs = let v = versions-read (now (c .before .before .before .before .before .before .before .before .before .before .before .before .before .before .before .before .before .before .args .device)) _ (came (λ (x : DeviceAnswer). deviceOf x (c .before .before .before .before .before .before .before .before .before .before .before .read-device .result .addresses) (c .before .before .before .before .before .before .before .before .before .before .before .read-device .result .versions)) (c .before .before .before .before .before .before .before .before .before .before .before .read-device .ensures .0) (c .before .before .before .before .before .before .before .before .before .b .given .1)) in v .high
+bind-server-requires c κs = let v = versions-read (now (c .before .before .before .before .before .before .before .before .before .before .before .before .before .before .before .before .before .before .before .before .args .device)) _ (came (λ (x : DeviceAnswer). deviceOf x (c .before .before .before .before .before .before .before .before .before .before .before .before .before .read-device .result .addresses) (c .before .before .before .before .before .before .before .before .before .before .before .before .before .read-device .result .versions)) (c .before .before .before .before .before .before .before .before .before .before .before .before .before .read-device .ensures .0) (c .before .before .before .before .before .before .before .before .before .before .before .b .given .1)) in v .high
 
 returns-6 : tie.Need-returns-6
 unfolding boundTo given must pick
-returns-6 c = rw (came (λ (x : LayoutAnswer). answerOfLayout x (c .before .before .before .before .before .before .before .before .before .before .before .before .before .before .before .before .read-layout .result .starts)) (c .before .before .before .before .before .before .before .before .before .before .before .before .before .before .before .before .read-layout .ensures .0) (c .before .before .before .before .before .before .before .before .before .before .before .before .before .before .a .given .1), came (λ (x : DeviceAnswer). deviceOf x (c .before .before .before .before .before .before .before .before .before .before .before .before .read-device .result .addresses) (c .before .before .before .before .before .before .before .before .before .before .before .before .read-device .result .versions)) (c .before .before .before .before .before .before .before .before .before .before .before .before .read-device .ensures .0) (c .before .before .before .before .before .before .before .before .before .before .b .given .1), lt-ltb _ _ (c .before .before .before .before .before .before .before .if1 .left), lt-ltb _ _ (c .before .before .before .before .before .if2 .left), le-leb _ _ (c .before .before .before .before .if3 .left), ← c .before .before .wide .ensures) (c .bind-server .ensures)
+returns-6 c = rw (came (λ (x : LayoutAnswer). answerOfLayout x (c .before .before .before .before .before .before .before .before .before .before .before .before .before .before .before .before .before .before .read-layout .result .starts)) (c .before .before .before .before .before .before .before .before .before .before .before .before .before .before .before .before .before .before .read-layout .ensures .0) (c .before .before .before .before .before .before .before .before .before .before .before .before .before .before .before .before .a .given .1), came (λ (x : DeviceAnswer). deviceOf x (c .before .before .before .before .before .before .before .before .before .before .before .before .before .before .read-device .result .addresses) (c .before .before .before .before .before .before .before .before .before .before .before .before .before .before .read-device .result .versions)) (c .before .before .before .before .before .before .before .before .before .before .before .before .before .before .read-device .ensures .0) (c .before .before .before .before .before .before .before .before .before .before .before .before .b .given .1), lt-ltb _ _ (c .before .before .before .before .before .before .before .before .if1 .left), lt-ltb _ _ (c .before .before .before .before .before .if2 .left), le-leb _ _ (c .before .before .before .before .if3 .left), ← c .before .before .start-of .ensures) (c .bind-server .ensures)
 
 pub bind-spec : {M : Type 1} → statement M
 bind-spec =
@@ -103,11 +89,7 @@ bind-spec =
     returns-3
     returns-4
     returns-5
-    mul-i
-    add-i
-    cast-i
-    mul-wide
-    element-copy-out-wide
-    wide-requires
+    start-of-requires
+    cast-start
     bind-server-requires
     returns-6)

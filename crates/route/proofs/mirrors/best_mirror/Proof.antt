@@ -3,6 +3,7 @@
 use Prim.Native.Nat.{_-_, _≤_}
 use Rattle.base.proofs.BestLaws.{Picked, picked-first, picked-last, picked-next, picked-still}
 use Rattle.route.specs.Mirrors.{bestMirror, efficiencyOf}
+use borrow.Author.Needs.{needs}
 use mathlib.Core.Logic.{⊎-elim}
 use native.Mathlib.Omega.{arith}
 use Rattle.route.proofs.mirrors.best_mirror.Statement.{statement}
@@ -15,13 +16,13 @@ abbrev μ-loop : tie.MeasureT-loop
 μ-loop body starts mirrors stripe best₀ highest₀ m₀ best highest m = mirrors - m
 
 efficiency-requires : tie.Need-efficiency-requires Inv-loop μ-loop
-efficiency-requires c κs = (c .before .pre .2, omega arith)
+efficiency-requires c κs = search needs
 
 loop-holds : tie.Need-loop-holds Inv-loop μ-loop
-loop-holds c = (c .before .before .pre .0, picked-first _ _ (c .efficiency .ensures))
+loop-holds c = (c .before .before .pre, picked-first _ _ (c .efficiency .ensures))
 
 efficiency-requires-2 : tie.Need-efficiency-requires-2 Inv-loop μ-loop
-efficiency-requires-2 c κs = (c .before .before .before .before .pre .2, omega arith)
+efficiency-requires-2 c κs = search needs
 
 add-m : tie.Need-add-m Inv-loop μ-loop
 add-m c = omega arith
