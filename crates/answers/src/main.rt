@@ -5,6 +5,7 @@ mod record;
 mod spoil_case;
 mod state;
 
+use base::STORE_SIZE;
 use libc::STDOUT_FILENO;
 use print::say_field;
 use record::Record;
@@ -65,7 +66,7 @@ fn say_last(r: Record, place: u64) {
 // A proved loop has to end, and nothing says that a file does. So the place is bounded, by more than any file has.
 fn main() {
     let mut payload = [0u8; 16000];
-    let mut store = [0u8; 32768];
+    let mut store = [0u8; STORE_SIZE];
     let mut state = state::start();
     let mut place: u64 = 0;
     while place < 9223372036854775808 {

@@ -1,6 +1,7 @@
 // The cases that spoil the table and the store, and bring them back.
 use crate::state::State;
 use crate::state::start;
+use base::MOST_SEGMENTS;
 use base::SlotNumber;
 use print::say;
 use segments::Right;
@@ -41,21 +42,21 @@ fn is_blank(s: Segment) -> bool {
 }
 
 // The number of places before the first blank one.
-fn count_of(items: [Segment; 32]) -> usize {
+fn count_of(items: [Segment; MOST_SEGMENTS]) -> usize {
     let mut i: usize = 0;
-    while i < 32 {
+    while i < MOST_SEGMENTS {
         let s = items[i];
         if is_blank(s) {
             return i;
         }
         i += 1;
     }
-    32
+    MOST_SEGMENTS
 }
 
 // A place past the last one changes nothing.
 fn with_place(g: Segments, place: usize, s: Segment) -> Segments {
-    if 32 <= place {
+    if MOST_SEGMENTS <= place {
         return g;
     }
     let mut items = g.items;

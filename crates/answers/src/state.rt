@@ -1,4 +1,5 @@
 // What the program keeps from case to case, next to the body store.
+use base::STORE_SIZE;
 use segments::Table;
 
 pub struct State {
@@ -10,6 +11,6 @@ pub struct State {
 pub(crate) fn start() -> State {
     State {
         table: segments::empty_table(),
-        borrowed: 32768,
+        borrowed: STORE_SIZE,
     }
 }

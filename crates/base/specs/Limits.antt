@@ -29,6 +29,14 @@ longestFilehandle = 128
 abbrev pub longestName : ℕ
 longestName = 64
 
+-- "Flags are bits 1 .., 2 .., 4 .., 8 ..; any other bit is refused"
+abbrev pub knownFlags : ℕ
+knownFlags = 15
+
+-- "the set of spoken versions (bits 1, 2, 4, 8 for 3, 4.0, 4.1, 4.2)"
+abbrev pub everyVersion : ℕ
+everyVersion = 15
+
 -- "device id (16)"
 abbrev pub deviceIdSize : ℕ
 deviceIdSize = 16

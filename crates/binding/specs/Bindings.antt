@@ -5,6 +5,7 @@ use mathlib.Core.List.{List, [], _∷_}
 use mathlib.Core.Bool.{Bool, _&&_, _||_, not}
 use lib.ListN.{getD, replicate, take}
 use lib.Dec.{leb, ltb, eqb}
+use Rattle.base.specs.Limits.{deviceIdSize, everyVersion, longestFilehandle, stateidSize}
 use Rattle.base.specs.Answer.{Answer, accepted, refused, given, pick}
 use Rattle.base.specs.Bits.{bit}
 use Rattle.numbers.specs.Numbers.{bytesFrom, sameBytes}
@@ -41,15 +42,15 @@ chosenFrom set i (v ∷ vs) = pick (supports set v) (accepted i) (chosenFrom set
 
 -- "and the filehandle at its place": the one behind i others
 unfoldable pub handleAt : ℕ → List ℕ → ℕ → Res Part
-handleAt i s at = then (handlesAt i s at) λ passed p. opaqueAt 1 128 s p
+handleAt i s at = then (handlesAt i s at) λ passed p. opaqueAt 1 longestFilehandle s p
 
 -- "device id, or filehandle and version counts, differ in binding" is 13
 unfoldable pub matches : List ℕ → Server → ℕ → List ℕ → Bool
-matches s server count id = sameBytes (bytesFrom 16 s (server .device)) id && eqb (server .handles) count
+matches s server count id = sameBytes (bytesFrom deviceIdSize s (server .device)) id && eqb (server .handles) count
 
 -- "the chosen entry is version 4, not tight, and the server's stateid is not 16 zero bytes" is 15
 unfoldable pub stateidFits : List ℕ → Version → ℕ → Bool
-stateidFits s v stateid = not (eqb (v .version) 4) || (v .tight || sameBytes (bytesFrom 16 s stateid) (replicate 16 0))
+stateidFits s v stateid = not (eqb (v .version) 4) || (v .tight || sameBytes (bytesFrom stateidSize s stateid) (replicate stateidSize 0))
 
 -- what is not used of a binding
 abbrev pub nowhere : Part
@@ -82,5 +83,5 @@ boundTo layout mirror stripe device id set =
     given (deviceBody device) λ d.
     must (ltb mirror (l .summary .mirrors)) 16
     (must (ltb stripe (l .summary .servers)) 16
-    (must (leb set 15) 8
+    (must (leb set everyVersion) 8
     (serverBound layout (startAt (l .starts) mirror stripe) (d .versions) (d .versionCount) id set)))

@@ -1,6 +1,8 @@
 // The whole order of a binding: layout body, device body, place, set of versions, then server and entry.
 use crate::entry::Binding;
 use crate::entry::bind_server;
+use base::DEVICE_ID_SIZE;
+use base::EVERY_VERSION;
 use base::Fault;
 use base::MirrorNumber;
 use base::Refusal;
@@ -17,7 +19,7 @@ pub fn bind(
     mirror: MirrorNumber,
     stripe: StripeNumber,
     device: &[u8],
-    id: &[u8; 16],
+    id: &[u8; DEVICE_ID_SIZE],
     supported: u32,
 ) -> Binding
     ensures { λ r. ⌜ answerOfBinding r
@@ -39,7 +41,7 @@ pub fn bind(
     if summary.servers <= stripe.0 {
         return Binding::Refused(Refusal::BeyondLayout);
     }
-    if 15 < supported {
+    if EVERY_VERSION < supported {
         return Binding::Refused(Refusal::Fault(Fault::OutsideLimit));
     }
     let starts = l.starts;

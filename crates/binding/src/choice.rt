@@ -1,11 +1,14 @@
 // Which version entry is chosen, and the filehandle at a place.
 use base::Fault;
+use base::LONGEST_FILEHANDLE;
 use base::Refusal;
+use base::VERSION_PLACES;
 use device_version::Version;
 use xdr::Cursor;
 use xdr::ReadEnd;
 use xdr::ReadPart;
 ghost use mathlib.Core.Path.{_≡_};
+ghost use Rattle.base.specs.Limits.{mostVersions};
 ghost use Rattle.base.specs.Answer.{refusalIn};
 ghost use Rattle.base.specs.Refusals.{numberOf};
 ghost use Prim.Native.Nat.{_≤_, _<_};
@@ -36,8 +39,8 @@ pub(crate) fn supported_by(set: u32, v: Version) -> bool
 }
 
 // The first of the n entries that is supported.
-pub(crate) fn choose(set: u32, versions: [Version; 8], n: u32) -> Choice
-    requires { ⌜ n ≤ 8 ⌝ }
+pub(crate) fn choose(set: u32, versions: [Version; VERSION_PLACES], n: u32) -> Choice
+    requires { ⌜ n ≤ mostVersions ⌝ }
     ensures { λ r. ⌜ answerOfChoice r ≡ chosenFrom set 0 (take n versions) ⌝ }
 {
     let mut i: u32 = 0;
@@ -68,5 +71,5 @@ pub(crate) fn read_handle(s: &[u8], first: Cursor, i: u32) -> ReadPart
     let ReadEnd::Value(c) = p else {
         return ReadPart::Refused(xdr::why_end(p));
     };
-    xdr::read_opaque(s, c, 1, 128)
+    xdr::read_opaque(s, c, 1, LONGEST_FILEHANDLE)
 }

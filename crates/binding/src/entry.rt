@@ -3,7 +3,10 @@ use crate::choice::Choice;
 use crate::choice::choose;
 use crate::choice::read_handle;
 use crate::choice::why_choice;
+use base::DEVICE_ID_SIZE;
 use base::Refusal;
+use base::STATEID_SIZE;
+use base::VERSION_PLACES;
 use device_version::Version;
 use server::ReadServer;
 use server::Server;
@@ -13,6 +16,7 @@ use xdr::ReadPart;
 ghost use mathlib.Core.Path.{_≡_};
 ghost use Prim.Native.Nat.{_+_, _≤_};
 ghost use lib.ListN.{length};
+ghost use Rattle.base.specs.Limits.{deviceIdSize, mostVersions, stateidSize};
 ghost use Rattle.binding.specs.Bindings.{entryBound, matches, serverBound, stateidFits};
 ghost use Rattle.binding.specs.Answers.{answerOfBinding};
 
@@ -36,7 +40,7 @@ const NOWHERE: Part = Part { start: 0, len: 0 };
 
 // A loosely coupled version 4 takes the anonymous stateid, so the layout has 16 zero bytes there.
 fn stateid_fits(s: &[u8], v: Version, stateid: usize) -> bool
-    requires { ⌜ stateid + 16 ≤ length (now s) ⌝ }
+    requires { ⌜ stateid + stateidSize ≤ length (now s) ⌝ }
     ensures { λ r. ⌜ r ≡ stateidFits (now (s .entry)) v stateid ⌝ }
 {
     if v.version != 4 {
@@ -45,17 +49,17 @@ fn stateid_fits(s: &[u8], v: Version, stateid: usize) -> bool
     if v.tight {
         return true;
     }
-    let end = stateid + 16;
-    numbers::same(&s[stateid..end], &[0u8; 16])
+    let end = stateid + STATEID_SIZE;
+    numbers::same(&s[stateid..end], &[0u8; STATEID_SIZE])
 }
 
 // The server is the device's: its id, and a filehandle for each version entry.
-fn server_matches(s: &[u8], server: Server, count: u32, id: &[u8; 16]) -> bool
-    requires { ⌜ server .device + 16 ≤ length (now s) ⌝ }
+fn server_matches(s: &[u8], server: Server, count: u32, id: &[u8; DEVICE_ID_SIZE]) -> bool
+    requires { ⌜ server .device + deviceIdSize ≤ length (now s) ⌝ }
     ensures { λ r. ⌜ r ≡ matches (now (s .entry)) server count (now (id .entry)) ⌝ }
 {
     let start = server.device;
-    let end = start + 16;
+    let end = start + DEVICE_ID_SIZE;
     if !numbers::same(&s[start..end], id) {
         return false;
     }
@@ -63,7 +67,7 @@ fn server_matches(s: &[u8], server: Server, count: u32, id: &[u8; 16]) -> bool
 }
 
 fn bind_entry(s: &[u8], server: Server, v: Version, i: u32) -> Binding
-    requires { ⌜ server .stateid + 16 ≤ length (now s) ⌝ }
+    requires { ⌜ server .stateid + stateidSize ≤ length (now s) ⌝ }
     ensures { λ r. ⌜ answerOfBinding r ≡ entryBound (now (s .entry)) server v i ⌝ }
 {
     if !stateid_fits(s, v, server.stateid) {
@@ -105,12 +109,12 @@ fn bind_entry(s: &[u8], server: Server, v: Version, i: u32) -> Binding
 pub(crate) fn bind_server(
     s: &[u8],
     start: usize,
-    versions: [Version; 8],
+    versions: [Version; VERSION_PLACES],
     count: u32,
-    id: &[u8; 16],
+    id: &[u8; DEVICE_ID_SIZE],
     set: u32,
 ) -> Binding
-    requires { ⌜ count ≤ 8 ⌝ }
+    requires { ⌜ count ≤ mostVersions ⌝ }
     ensures { λ r. ⌜ answerOfBinding r ≡ serverBound (now (s .entry)) start versions count (now (id .entry)) set ⌝ }
 {
     let r = server::read_server(s, Cursor { at: start });

@@ -8,7 +8,9 @@ mod meaning;
 use arguments::ReadWish;
 use arguments::Wish;
 use base::Iomode;
+use base::MOST_STARTS;
 use base::Refusal;
+use base::STORE_SIZE;
 use columns::find_columns;
 use drawing::Subject;
 use events::Event;
@@ -54,7 +56,7 @@ fn draw(
     t: Table,
     layout: Layout4,
     summary: Summary,
-    starts: [u16; 128],
+    starts: [u16; MOST_STARTS],
     wish: Wish,
 ) {
     let iomode = layout.iomode;
@@ -80,7 +82,7 @@ fn draw(
 
 // The layout is granted to an empty table with an empty store, and the chart shows what is answered from these.
 fn chart(bytes: &[u8], wish: Wish) {
-    let mut store = [0u8; 32768];
+    let mut store = [0u8; STORE_SIZE];
     let o = events::apply(segments::empty_table(), &mut store, Event::Grant, bytes);
     let v = o.verdict;
     if let Verdict::Refused(e) = v {

@@ -4,7 +4,7 @@ use mathlib.Core.List.{List}
 use lib.ListN.{length, replicate}
 use lib.Dec.{leb}
 use Rattle.base.specs.Answer.{Answer, accepted, refused, pick}
-use Rattle.base.specs.Limits.{mostAddresses, mostVersions}
+use Rattle.base.specs.Limits.{longestDeviceBody, mostAddresses, mostVersions}
 use Rattle.xdr.specs.Res.{Res, ok, then, whole}
 use Rattle.xdr.specs.Lists.{Listed, listAt}
 use Rattle.netaddr.specs.Addresses.{addressAt, blankAddress}
@@ -36,13 +36,13 @@ deviceAt s at =
 
 -- "At most 2,048 bytes, tested first of all; nothing may follow."
 unfoldable pub deviceBody : List ℕ → Answer Device
-deviceBody s = pick (leb (length s) 2048) (whole s (deviceAt s 0)) (refused 8)
+deviceBody s = pick (leb (length s) longestDeviceBody) (whole s (deviceAt s 0)) (refused 8)
 
 -- "A refusal gives its number, no other result": all places are blank then
 abbrev pub addressesIn : Answer Device → List Address
 addressesIn (accepted d) = d .addresses
-addressesIn (refused n) = replicate 8 blankAddress
+addressesIn (refused n) = replicate mostAddresses blankAddress
 
 abbrev pub versionsIn : Answer Device → List Version
 versionsIn (accepted d) = d .versions
-versionsIn (refused n) = replicate 8 blankVersion
+versionsIn (refused n) = replicate mostVersions blankVersion

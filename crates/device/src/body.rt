@@ -1,5 +1,10 @@
 // The whole device body: a list of addresses, then a list of versions.
+use base::ADDRESS_PLACES;
 use base::Fault;
+use base::LONGEST_DEVICE_BODY;
+use base::MOST_ADDRESSES;
+use base::MOST_VERSIONS;
+use base::VERSION_PLACES;
 use device_version::ReadVersion;
 use device_version::Version;
 use device_version::read_version;
@@ -15,6 +20,7 @@ use xdr::ReadU32;
 ghost use mathlib.Core.Path.{_≡_};
 ghost use mathlib.Core.List.{[]};
 ghost use lib.ListN.{replicate};
+ghost use Rattle.base.specs.Limits.{mostAddresses, mostVersions};
 ghost use Rattle.base.specs.Answer.{refusalIn, refused};
 ghost use Rattle.base.specs.Refusals.{faultNumber};
 ghost use Rattle.xdr.specs.Answers.{resOfList};
@@ -32,28 +38,21 @@ pub enum DeviceAnswer {
 // Unused places are blank, and all of them after a refusal.
 pub struct DeviceRead {
     pub answer: DeviceAnswer,
-    pub addresses: [Address; 8],
-    pub versions: [Version; 8],
+    pub addresses: [Address; ADDRESS_PLACES],
+    pub versions: [Version; VERSION_PLACES],
 }
 
 // The count, and the addresses in the first places.
 struct AddressList {
     answer: ReadU32,
-    places: [Address; 8],
+    places: [Address; ADDRESS_PLACES],
 }
 
 // The count, and the versions in the first places.
 struct VersionList {
     answer: ReadU32,
-    places: [Version; 8],
+    places: [Version; VERSION_PLACES],
 }
-
-// The longest body, in bytes.
-const LONGEST: usize = 2048;
-
-const MOST_ADDRESSES: u32 = 8;
-
-const MOST_VERSIONS: u32 = 8;
 
 const NO_ADDRESS: Address = Address {
     class: NetidClass::Other,
@@ -71,7 +70,7 @@ const NO_VERSION: Version = Version {
 fn read_addresses(s: &[u8], c: Cursor) -> AddressList
     ensures { λ r. ⌜ resOfList (r .places) (r .answer) ≡ addressesAt (now (s .entry)) (c .at) ⌝ }
 {
-    let mut places = [NO_ADDRESS; 8];
+    let mut places = [NO_ADDRESS; ADDRESS_PLACES];
     let count = xdr::read_count(s, c, 1, MOST_ADDRESSES);
     let ReadU32::Value(n, first) = count else {
         return AddressList {
@@ -102,7 +101,7 @@ fn read_addresses(s: &[u8], c: Cursor) -> AddressList
 fn read_versions(s: &[u8], c: Cursor) -> VersionList
     ensures { λ r. ⌜ resOfList (r .places) (r .answer) ≡ versionsAt (now (s .entry)) (c .at) ⌝ }
 {
-    let mut places = [NO_VERSION; 8];
+    let mut places = [NO_VERSION; VERSION_PLACES];
     let count = xdr::read_count(s, c, 1, MOST_VERSIONS);
     let ReadU32::Value(n, first) = count else {
         return VersionList {
@@ -131,19 +130,19 @@ fn read_versions(s: &[u8], c: Cursor) -> VersionList
 }
 
 fn refuse(e: Fault) -> DeviceRead
-    ensures { λ r. ⌜ (answerOfDevice r ≡ refused (faultNumber e)) × (r .addresses ≡ replicate 8 blankAddress) × (r .versions ≡ replicate 8 blankVersion) ⌝ }
+    ensures { λ r. ⌜ (answerOfDevice r ≡ refused (faultNumber e)) × (r .addresses ≡ replicate mostAddresses blankAddress) × (r .versions ≡ replicate mostVersions blankVersion) ⌝ }
 {
     DeviceRead {
         answer: DeviceAnswer::Refused(e),
-        addresses: [NO_ADDRESS; 8],
-        versions: [NO_VERSION; 8],
+        addresses: [NO_ADDRESS; ADDRESS_PLACES],
+        versions: [NO_VERSION; VERSION_PLACES],
     }
 }
 
 pub fn read_device(s: &[u8]) -> DeviceRead
     ensures { λ r. ⌜ (answerOfDevice r ≡ deviceBody (now (s .entry))) × (r .addresses ≡ addressesIn (deviceBody (now (s .entry)))) × (r .versions ≡ versionsIn (deviceBody (now (s .entry)))) ⌝ }
 {
-    if LONGEST < s.len() {
+    if LONGEST_DEVICE_BODY < s.len() {
         return refuse(Fault::OutsideLimit);
     }
     let a = read_addresses(s, Cursor { at: 0 });

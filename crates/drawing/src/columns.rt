@@ -1,4 +1,5 @@
 // The columns of a chart: one piece after the other.
+use base::MOST_MIRRORS;
 use base::MirrorNumber;
 use base::StripeNumber;
 use base::larger;
@@ -19,7 +20,7 @@ pub struct Columns {
 
 // Whether the bytes of a column go to the server of a mirror and a stripe.
 pub(crate) fn goes_to(c: Column, m: MirrorNumber, k: StripeNumber) -> bool {
-    if 8 <= m.0 {
+    if MOST_MIRRORS <= m.0 {
         return false;
     }
     if c.mirrors >> m.0 & 1 == 0 {

@@ -1,5 +1,6 @@
 // What a chart shows.
 use crate::columns::Columns;
+use base::MOST_STARTS;
 use base::MirrorNumber;
 use base::StripeNumber;
 use layout::Summary;
@@ -8,7 +9,7 @@ use layout4::Layout4;
 pub struct Subject {
     pub layout: Layout4,
     pub summary: Summary,
-    pub starts: [u16; 128],
+    pub starts: [u16; MOST_STARTS],
     pub columns: Columns,
 }
 

@@ -1,4 +1,5 @@
 // Error reports, written.
+use base::REPORT_PLACES;
 use error_list::ErrorRecord;
 use report::ReportHead;
 use report_write::Written;
@@ -12,7 +13,7 @@ ghost use Rattle.driver.specs.ReportCalls.{writeResult};
 // C passes no array by value.
 #[repr(C)]
 pub struct ReportHeads {
-    pub heads: [ReportHead; 8],
+    pub heads: [ReportHead; REPORT_PLACES],
 }
 
 // The length is 0 after a refusal.

@@ -1,4 +1,5 @@
 // The readers of the wire.
+use base::DEVICE_ID_SIZE;
 use base::MirrorNumber;
 use base::StripeNumber;
 use wire_record::BindResult;
@@ -47,7 +48,7 @@ pub extern "C" fn basilothyn_bind(
     mirror: u32,
     stripe: u32,
     device: &[u8],
-    id: &[u8; 16],
+    id: &[u8; DEVICE_ID_SIZE],
     supported: u32,
 ) -> BindResult
     ensures { λ r. ⌜ r ≡ bindResult (boundTo (now (layout .entry)) mirror stripe (now (device .entry)) (now (id .entry)) supported) ⌝ }

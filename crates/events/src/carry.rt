@@ -4,6 +4,7 @@ use crate::outcome::accepted;
 use crate::outcome::refused;
 use crate::step::Step;
 use base::Refusal;
+use base::SLOT_PLACES;
 use segments::READ_LIST;
 use segments::RW_LIST;
 use segments::Segments;
@@ -31,7 +32,7 @@ fn change_of(s: Step) -> Change
 // `was` says which slots the table before the edit names; read and rw are the lists after it.
 fn settle_store(
     s: Step,
-    was: [bool; 8],
+    was: [bool; SLOT_PLACES],
     read: Segments,
     rw: Segments,
     store: &mut [u8],
@@ -50,7 +51,7 @@ fn settle_store(
 
 pub(crate) fn carry_out(
     t: Table,
-    named: [bool; 8],
+    named: [bool; SLOT_PLACES],
     store: &mut [u8],
     s: Step,
     span: Span,

@@ -11,6 +11,7 @@ use crate::step::Ruling;
 use crate::step::rule;
 use crate::step::why_ruling;
 use base::Refusal;
+use base::SLOT_PLACES;
 use segments::Table;
 ghost use mathlib.Core.Path.{_≡_};
 ghost use Prim.Native.Nat.{_+_, _≤_};
@@ -21,7 +22,7 @@ ghost use Rattle.events.specs.Answers.{eventOf, orderOf, resultOf};
 ghost use Rattle.events.specs.Events.{called, obeyed};
 
 // The third stage and those behind it, on a table that is sound.
-fn obey(t: Table, named: [bool; 8], store: &mut [u8], o: Order, bytes: &[u8]) -> Outcome
+fn obey(t: Table, named: [bool; SLOT_PLACES], store: &mut [u8], o: Order, bytes: &[u8]) -> Outcome
     requires { ⌜ (named ≡ namedSlots t) × (o .body .start + o .body .len ≤ length (now bytes)) ⌝ }
     ensures { λ r. ⌜ resultOf r (now (store .exit))
         ≡ obeyed (accepted (orderOf o (now (bytes .entry)))) t (now (store .entry)) ⌝ }

@@ -2,6 +2,7 @@
 use crate::order::Deed;
 use base::Fault;
 use base::Refusal;
+use base::SLOT_PLACES;
 use base::SlotNumber;
 use lookup::Condition;
 use segments::Span;
@@ -51,7 +52,7 @@ fn grant_at(h: Home) -> Ruling
     }
 }
 
-fn rule_grant(t: Table, named: [bool; 8], store: &[u8], span: Span, body: &[u8]) -> Ruling
+fn rule_grant(t: Table, named: [bool; SLOT_PLACES], store: &[u8], span: Span, body: &[u8]) -> Ruling
     requires { ⌜ named ≡ namedSlots t ⌝ }
     ensures { λ r. ⌜ answerOfRuling r
         ≡ grantRuled (homeOf (now (body .entry)) (slotsIn t (now (store .entry))))
@@ -79,7 +80,7 @@ fn rule_recall(t: Table, span: Span) -> Ruling
 
 pub(crate) fn rule(
     t: Table,
-    named: [bool; 8],
+    named: [bool; SLOT_PLACES],
     store: &[u8],
     deed: Deed,
     span: Span,

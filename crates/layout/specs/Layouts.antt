@@ -6,7 +6,7 @@ use mathlib.Core.List.{List, [], _∷_, _++_, map}
 use lib.ListN.{length, getD}
 use lib.Dec.{leb, ltb, eqb}
 use Rattle.base.specs.Answer.{Answer, refused, pick}
-use Rattle.base.specs.Limits.{mostServers}
+use Rattle.base.specs.Limits.{knownFlags, longestBody, mostMirrors, mostServers, mostStarts}
 use Rattle.base.specs.Lists.{padded}
 use Rattle.xdr.specs.Res.{Res, ok, no, then, manyAt, whole}
 use Rattle.xdr.specs.Items.{countAt, numAt}
@@ -24,13 +24,13 @@ unitFits unit servers = pick (eqb servers 1) (eqb unit 0) (leb 1 unit)
 unfoldable pub frontAt : List ℕ → ℕ → Res Front
 frontAt s at =
     then (numAt 8 s at) λ unit p1.
-    then (countAt 1 8 s p1) λ mirrors p2.
-    then (countAt 1 16 s p2) λ servers p3.
+    then (countAt 1 mostMirrors s p1) λ mirrors p2.
+    then (countAt 1 mostServers s p2) λ servers p3.
     pick (unitFits unit servers) (ok (record { unit = unit; mirrors = mirrors; servers = servers }) p3) (no 10)
 
 -- "all mirrors have the same server count": a mirror behind the first, which had n servers
 unfoldable pub mirrorAt : ℕ → List ℕ → ℕ → Res (List Server)
-mirrorAt n s at = then (countAt 1 16 s at) λ count p. pick (eqb count n) (manyAt serverAt n s p) (no 9)
+mirrorAt n s at = then (countAt 1 mostServers s at) λ count p. pick (eqb count n) (manyAt serverAt n s p) (no 9)
 
 -- the mirrors, from behind the first server count
 unfoldable pub mirrorsAt : ℕ → ℕ → List ℕ → ℕ → Res (List (List Server))
@@ -43,16 +43,16 @@ mirrorsAt mirrors servers s at =
 unfoldable pub tailAt : List ℕ → ℕ → Res Tail
 tailAt s at =
     then (numAt 4 s at) λ flags p1.
-    pick (leb flags 15) (then (numAt 4 s p1) λ hint p2. ok (record { flags = flags; hint = hint }) p2) (no 11)
+    pick (leb flags knownFlags) (then (numAt 4 s p1) λ hint p2. ok (record { flags = flags; hint = hint }) p2) (no 11)
 
 -- 16 places a mirror: where each of its servers starts, then zeros
 unfoldable pub rows : List (List Server) → List ℕ
 rows [] = []
-rows (m ∷ ms) = padded 16 0 (map (λ v. v .device) m) ++ rows ms
+rows (m ∷ ms) = padded mostServers 0 (map (λ v. v .device) m) ++ rows ms
 
 -- "says where each server starts, by mirror and by stripe, as byte offsets from the body's first byte, with 0 in unused places"
 unfoldable pub startsOf : List (List Server) → List ℕ
-startsOf mirrors = padded 128 0 (rows mirrors)
+startsOf mirrors = padded mostStarts 0 (rows mirrors)
 
 -- where a mirror's server of a stripe starts, in such a table: 0 beyond its places, and no stripe reaches into the next
 -- mirror's
@@ -77,4 +77,4 @@ layoutAt s =
 
 -- "body at most 4,090 bytes, tested before anything in it"; nothing may follow
 unfoldable pub layoutBody : List ℕ → Answer Layout
-layoutBody s = pick (leb (length s) 4090) (whole s (layoutAt s)) (refused 8)
+layoutBody s = pick (leb (length s) longestBody) (whole s (layoutAt s)) (refused 8)

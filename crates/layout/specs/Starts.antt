@@ -2,6 +2,7 @@
 use Prim.Native.Nat.{ℕ, _+_}
 use mathlib.Core.List.{List, [], _∷_, map}
 use lib.Seq.{sets}
+use Rattle.base.specs.Limits.{mostServers}
 use Rattle.base.specs.Refusals.{faultNumber}
 use Rattle.xdr.specs.Res.{Res, ok, no, then}
 use Rattle.server.specs.declared.item.Server.{Server}
@@ -20,7 +21,7 @@ withServers k x table = then x λ servers at. ok (sets table k (map (λ v. v .de
 -- each mirror 16 places behind the one before
 unfoldable pub setRows : List ℕ → ℕ → List (List Server) → List ℕ
 setRows table k [] = table
-setRows table k (m ∷ ms) = setRows (sets table k (map (λ v. v .device) m)) (k + 16) ms
+setRows table k (m ∷ ms) = setRows (sets table k (map (λ v. v .device) m)) (k + mostServers) ms
 
 unfoldable pub withMirrors : ℕ → Res (List (List Server)) → List ℕ → Res (List ℕ)
 withMirrors k x table = then x λ mirrors at. ok (setRows table k mirrors) at

@@ -7,10 +7,13 @@ use crate::ends::why_front;
 use crate::ends::why_tail;
 use crate::mirrors::read_mirrors;
 use base::Fault;
+use base::LONGEST_BODY;
+use base::MOST_STARTS;
 use xdr::Cursor;
 use xdr::ReadEnd;
 ghost use mathlib.Core.Path.{_≡_};
 ghost use mathlib.Core.List.{[]};
+ghost use Rattle.base.specs.Limits.{mostStarts};
 ghost use Rattle.base.specs.Answer.{refusalIn};
 ghost use Rattle.base.specs.Refusals.{faultNumber};
 ghost use lib.ListN.{replicate};
@@ -33,15 +36,15 @@ pub enum LayoutAnswer {
 // The start of a data server stands at the index mirror * 16 + stripe. Unused places are 0, and all after a refusal.
 pub struct LayoutRead {
     pub answer: LayoutAnswer,
-    pub starts: [u16; 128],
+    pub starts: [u16; MOST_STARTS],
 }
 
 fn refused(e: Fault) -> LayoutRead
-    ensures { λ r. ⌜ (r .answer ≡ LayoutAnswer.Refused e) × (r .starts ≡ replicate 128 0) ⌝ }
+    ensures { λ r. ⌜ (r .answer ≡ LayoutAnswer.Refused e) × (r .starts ≡ replicate mostStarts 0) ⌝ }
 {
     LayoutRead {
         answer: LayoutAnswer::Refused(e),
-        starts: [0u16; 128],
+        starts: [0u16; MOST_STARTS],
     }
 }
 
@@ -49,14 +52,14 @@ pub fn read_layout(s: &[u8]) -> LayoutRead
     ensures { λ r. ⌜ (answerOfLayout (r .answer) (r .starts) ≡ layoutBody (now (s .entry)))
         × (r .starts ≡ startsIn (layoutBody (now (s .entry)))) ⌝ }
 {
-    if 4090 < s.len() {
+    if LONGEST_BODY < s.len() {
         return refused(Fault::OutsideLimit);
     }
     let f = read_front(s, Cursor { at: 0 });
     let ReadFront::Value(front, c1) = f else {
         return refused(why_front(f));
     };
-    let mut starts = [0u16; 128];
+    let mut starts = [0u16; MOST_STARTS];
     let m = read_mirrors(s, c1, front.mirrors, front.servers, &mut starts);
     let ReadEnd::Value(c2) = m else {
         return refused(xdr::why_end(m));

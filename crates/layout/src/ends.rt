@@ -1,5 +1,8 @@
 // What stands before the first data server of a layout body, and behind the last.
 use base::Fault;
+use base::KNOWN_FLAGS;
+use base::MOST_MIRRORS;
+use base::MOST_SERVERS;
 use xdr::Cursor;
 use xdr::ReadU32;
 use xdr::ReadU64;
@@ -47,11 +50,11 @@ pub(crate) fn read_front(s: &[u8], c: Cursor) -> ReadFront
     let ReadU64::Value(unit, c1) = u else {
         return ReadFront::Refused(xdr::why_u64(u));
     };
-    let m = xdr::read_count(s, c1, 1, 8);
+    let m = xdr::read_count(s, c1, 1, MOST_MIRRORS);
     let ReadU32::Value(mirrors, c2) = m else {
         return ReadFront::Refused(xdr::why_u32(m));
     };
-    let n = xdr::read_count(s, c2, 1, 16);
+    let n = xdr::read_count(s, c2, 1, MOST_SERVERS);
     let ReadU32::Value(servers, c3) = n else {
         return ReadFront::Refused(xdr::why_u32(n));
     };
@@ -75,7 +78,7 @@ pub(crate) fn read_tail(s: &[u8], c: Cursor) -> ReadTail
     let ReadU32::Value(flags, c1) = f else {
         return ReadTail::Refused(xdr::why_u32(f));
     };
-    if 15 < flags {
+    if KNOWN_FLAGS < flags {
         return ReadTail::Refused(Fault::FlagUnknown);
     }
     let h = xdr::read_u32(s, c1);

@@ -1,5 +1,8 @@
 // The mirrors of a layout body, and where each data server starts. The loops borrow the table of starts, so that it is copied only once.
 use base::Fault;
+use base::MOST_SERVERS;
+use base::MOST_STARTS;
+use base::ROW_PLACES;
 use server::ReadServer;
 use xdr::Cursor;
 use xdr::ReadEnd;
@@ -7,14 +10,21 @@ use xdr::ReadU32;
 ghost use mathlib.Core.Path.{_≡_};
 ghost use Prim.Native.Nat.{_+_, _≤_};
 ghost use lib.ListN.{length};
+ghost use Rattle.base.specs.Limits.{longestBody, mostMirrors, mostServers, mostStarts};
 ghost use Rattle.server.specs.Servers.{serverAt};
 ghost use Rattle.xdr.specs.Res.{manyAt};
 ghost use Rattle.layout.specs.Layouts.{mirrorAt, mirrorsAt};
 ghost use Rattle.layout.specs.Starts.{resOfStarts, withServers, withMirrors};
 
 // n servers, their starts from the index first on.
-fn read_servers(s: &[u8], c: Cursor, n: u32, first: usize, starts: &mut [u16; 128]) -> ReadEnd
-    requires { ⌜ (length (now s) ≤ 4090) × (c .at ≤ length (now s)) × (first + n ≤ 128) ⌝ }
+fn read_servers(
+    s: &[u8],
+    c: Cursor,
+    n: u32,
+    first: usize,
+    starts: &mut [u16; MOST_STARTS],
+) -> ReadEnd
+    requires { ⌜ (length (now s) ≤ longestBody) × (c .at ≤ length (now s)) × (first + n ≤ mostStarts) ⌝ }
     ensures { λ r. ⌜ resOfStarts r (now (starts .exit)) ≡ withServers first (manyAt serverAt n (now (s .entry)) (c .at)) (now (starts .entry)) ⌝ }
 {
     let mut d = c;
@@ -35,11 +45,17 @@ fn read_servers(s: &[u8], c: Cursor, n: u32, first: usize, starts: &mut [u16; 12
 }
 
 // A mirror behind the first: its count, then its n servers.
-fn read_mirror(s: &[u8], c: Cursor, n: u32, first: usize, starts: &mut [u16; 128]) -> ReadEnd
-    requires { ⌜ (length (now s) ≤ 4090) × (first + n ≤ 128) ⌝ }
+fn read_mirror(
+    s: &[u8],
+    c: Cursor,
+    n: u32,
+    first: usize,
+    starts: &mut [u16; MOST_STARTS],
+) -> ReadEnd
+    requires { ⌜ (length (now s) ≤ longestBody) × (first + n ≤ mostStarts) ⌝ }
     ensures { λ r. ⌜ resOfStarts r (now (starts .exit)) ≡ withServers first (mirrorAt n (now (s .entry)) (c .at)) (now (starts .entry)) ⌝ }
 {
-    let r = xdr::read_count(s, c, 1, 16);
+    let r = xdr::read_count(s, c, 1, MOST_SERVERS);
     let ReadU32::Value(count, d) = r else {
         return ReadEnd::Refused(xdr::why_u32(r));
     };
@@ -55,9 +71,9 @@ pub(crate) fn read_mirrors(
     c: Cursor,
     mirrors: u32,
     servers: u32,
-    starts: &mut [u16; 128],
+    starts: &mut [u16; MOST_STARTS],
 ) -> ReadEnd
-    requires { ⌜ (length (now s) ≤ 4090) × (c .at ≤ length (now s)) × (mirrors ≤ 8) × (servers ≤ 16) ⌝ }
+    requires { ⌜ (length (now s) ≤ longestBody) × (c .at ≤ length (now s)) × (mirrors ≤ mostMirrors) × (servers ≤ mostServers) ⌝ }
     ensures { λ r. ⌜ resOfStarts r (now (starts .exit)) ≡ withMirrors 0 (mirrorsAt mirrors servers (now (s .entry)) (c .at)) (now (starts .entry)) ⌝ }
 {
     let f = read_servers(s, c, servers, 0, starts);
@@ -67,7 +83,7 @@ pub(crate) fn read_mirrors(
     let mut d = c1;
     let mut m: usize = 1;
     while m < mirrors as usize {
-        let r = read_mirror(s, d, servers, m * 16, starts);
+        let r = read_mirror(s, d, servers, m * ROW_PLACES, starts);
         let ReadEnd::Value(e) = r else {
             return r;
         };

@@ -1,20 +1,23 @@
 // Where one data server starts.
+use base::MIRROR_PLACES;
+use base::MOST_STARTS;
 use base::MirrorNumber;
+use base::ROW_PLACES;
 use base::StripeNumber;
 ghost use mathlib.Core.Path.{_≡_};
 ghost use Rattle.layout.specs.Layouts.{startAt};
 
 // Out of the starts of a layout body; 0 for a mirror or a stripe that has no place among them.
-pub fn start_of(starts: [u16; base::MOST_STARTS], mirror: MirrorNumber, stripe: StripeNumber) -> u16
+pub fn start_of(starts: [u16; MOST_STARTS], mirror: MirrorNumber, stripe: StripeNumber) -> u16
     ensures { λ r. ⌜ r ≡ startAt starts (mirror .0) (stripe .0) ⌝ }
 {
     let m = mirror.0 as usize;
     let k = stripe.0 as usize;
-    if base::MOST_MIRRORS <= m {
+    if MIRROR_PLACES <= m {
         return 0;
     }
-    if base::MOST_SERVERS <= k {
+    if ROW_PLACES <= k {
         return 0;
     }
-    starts[m * base::MOST_SERVERS + k]
+    starts[m * ROW_PLACES + k]
 }

@@ -3,6 +3,7 @@ use Prim.Native.Nat.{ℕ, _+_}
 use mathlib.Core.List.{List}
 use lib.ListN.{length}
 use lib.Dec.{leb, eqb}
+use Rattle.base.specs.Limits.{longestBody}
 use Rattle.base.specs.Answer.{Answer, pick}
 use Rattle.base.specs.Iomodes.{grantIomodeOf}
 use Rattle.base.specs.Ranges.{rangeLast}
@@ -29,7 +30,7 @@ frameAt s at =
     then (numAt 4 s p1) λ number p2.
     then (asItem (grantIomodeOf number) p2) λ iomode p3.
     then (numAt 4 s p3) λ kind p4.
-    pick (eqb kind 4) (then (countAt 0 4090 s p4) λ size p5. ok (record { range = range; iomode = iomode; size = size }) p5) (no 4)
+    pick (eqb kind 4) (then (countAt 0 longestBody s p4) λ size p5. ok (record { range = range; iomode = iomode; size = size }) p5) (no 4)
 
 -- frame: a layout4, in which `body` is where the body's bytes stand; body: the summary of what these bytes say
 pub record Whole : Type 0 where

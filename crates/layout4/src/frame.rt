@@ -1,6 +1,7 @@
 // What stands before the body of a layout4.
 use base::Fault;
 use base::Iomode;
+use base::LONGEST_BODY;
 use base::Last;
 use base::ReadIomode;
 use xdr::Cursor;
@@ -11,6 +12,9 @@ ghost use Rattle.xdr.specs.Res.{faultIn};
 ghost use Rattle.base.specs.Refusals.{faultNumber};
 ghost use Rattle.layout4.specs.Layout4s.{frameAt, rangeAt};
 ghost use Rattle.layout4.specs.Answers.{resOfFrame, resOfRange};
+
+// A body's length as it is read.
+const LONGEST_SIZE: u32 = LONGEST_BODY as u32;
 
 // Offset and length as on the wire, and the last byte.
 pub struct Range {
@@ -82,7 +86,7 @@ pub(crate) fn read_frame(s: &[u8], c: Cursor) -> ReadFrame
     if kind != 4 {
         return ReadFrame::Refused(Fault::LayoutTypeUnknown);
     }
-    let n = xdr::read_count(s, c3, 0, 4090);
+    let n = xdr::read_count(s, c3, 0, LONGEST_SIZE);
     let ReadU32::Value(size, c4) = n else {
         return ReadFrame::Refused(xdr::why_u32(n));
     };

@@ -5,6 +5,7 @@ use crate::frame::read_frame;
 use crate::frame::why_frame;
 use base::Fault;
 use base::Iomode;
+use base::MOST_STARTS;
 use layout::LayoutAnswer;
 use layout::Summary;
 use xdr::Cursor;
@@ -12,6 +13,7 @@ use xdr::Part;
 use xdr::ReadPart;
 ghost use mathlib.Core.Path.{_≡_};
 ghost use mathlib.Core.List.{[]};
+ghost use Rattle.base.specs.Limits.{mostStarts};
 ghost use Rattle.base.specs.Answer.{refusalIn};
 ghost use Rattle.base.specs.Refusals.{faultNumber};
 ghost use Prim.Native.Nat.{_+_};
@@ -38,15 +40,15 @@ pub enum Layout4Answer {
 // The starts are the body's, counted from its first byte; all 0 after a refusal.
 pub struct Layout4Read {
     pub answer: Layout4Answer,
-    pub starts: [u16; 128],
+    pub starts: [u16; MOST_STARTS],
 }
 
 fn refused(e: Fault) -> Layout4Read
-    ensures { λ r. ⌜ (r .answer ≡ Layout4Answer.Refused e) × (r .starts ≡ replicate 128 0) ⌝ }
+    ensures { λ r. ⌜ (r .answer ≡ Layout4Answer.Refused e) × (r .starts ≡ replicate mostStarts 0) ⌝ }
 {
     Layout4Read {
         answer: Layout4Answer::Refused(e),
-        starts: [0u16; 128],
+        starts: [0u16; MOST_STARTS],
     }
 }
 

@@ -1,4 +1,6 @@
 // Which slots the segments of a table name. All eight are found in one walk: each question by itself would copy the table.
+use base::SLOT_COUNT;
+use base::SLOT_PLACES;
 use base::SlotNumber;
 use segments::Right;
 use segments::Segments;
@@ -8,24 +10,25 @@ ghost use mathlib.Core.Bool.{false, _||_};
 ghost use Prim.Native.Nat.{ℕ, _<_};
 ghost use lib.Dec.{eqb};
 ghost use lib.ListN.{getD, length};
+ghost use Rattle.base.specs.Limits.{slotCount};
 ghost use Rattle.segments.specs.Segments.{anyNames, isOfSlot, listOf};
 ghost use Rattle.lookup.specs.Lookup.{namedSlots};
 
-fn mark_slot(named: &mut [bool; 8], s: SlotNumber)
-    requires { ⌜ length (now named) ≡ 8 ⌝ }
-    ensures { λ r. ⌜ (length (now (named .exit)) ≡ 8)
-        × ((i : ℕ) → i < 8 → getD (now (named .exit)) i false ≡ (eqb i (s .0) || getD (now (named .entry)) i false)) ⌝ }
+fn mark_slot(named: &mut [bool; SLOT_PLACES], s: SlotNumber)
+    requires { ⌜ length (now named) ≡ slotCount ⌝ }
+    ensures { λ r. ⌜ (length (now (named .exit)) ≡ slotCount)
+        × ((i : ℕ) → i < slotCount → getD (now (named .exit)) i false ≡ (eqb i (s .0) || getD (now (named .entry)) i false)) ⌝ }
 {
-    if s.0 < 8 {
+    if s.0 < SLOT_COUNT {
         let i = s.0 as usize;
         named[i] = true;
     }
 }
 
-fn mark(named: &mut [bool; 8], right: Right)
-    requires { ⌜ length (now named) ≡ 8 ⌝ }
-    ensures { λ r. ⌜ (length (now (named .exit)) ≡ 8)
-        × ((i : ℕ) → i < 8 → getD (now (named .exit)) i false ≡ (isOfSlot i right || getD (now (named .entry)) i false)) ⌝ }
+fn mark(named: &mut [bool; SLOT_PLACES], right: Right)
+    requires { ⌜ length (now named) ≡ slotCount ⌝ }
+    ensures { λ r. ⌜ (length (now (named .exit)) ≡ slotCount)
+        × ((i : ℕ) → i < slotCount → getD (now (named .exit)) i false ≡ (isOfSlot i right || getD (now (named .entry)) i false)) ⌝ }
 {
     match right {
         Right::None => {}
@@ -34,10 +37,10 @@ fn mark(named: &mut [bool; 8], right: Right)
     }
 }
 
-fn mark_all(named: &mut [bool; 8], g: Segments)
-    requires { ⌜ length (now named) ≡ 8 ⌝ }
-    ensures { λ r. ⌜ (length (now (named .exit)) ≡ 8)
-        × ((i : ℕ) → i < 8 → getD (now (named .exit)) i false ≡ (anyNames i (listOf g) || getD (now (named .entry)) i false)) ⌝ }
+fn mark_all(named: &mut [bool; SLOT_PLACES], g: Segments)
+    requires { ⌜ length (now named) ≡ slotCount ⌝ }
+    ensures { λ r. ⌜ (length (now (named .exit)) ≡ slotCount)
+        × ((i : ℕ) → i < slotCount → getD (now (named .exit)) i false ≡ (anyNames i (listOf g) || getD (now (named .entry)) i false)) ⌝ }
 {
     let n = segments::used_places(g.count);
     let mut k: usize = 0;
@@ -49,10 +52,10 @@ fn mark_all(named: &mut [bool; 8], g: Segments)
     }
 }
 
-pub fn named_slots(t: Table) -> [bool; 8]
+pub fn named_slots(t: Table) -> [bool; SLOT_PLACES]
     ensures { λ r. ⌜ r ≡ namedSlots t ⌝ }
 {
-    let mut named = [false; 8];
+    let mut named = [false; SLOT_PLACES];
     let read = t.read;
     mark_all(&mut named, read);
     let rw = t.rw;

@@ -1,6 +1,7 @@
 -- netaddr4, the element of RFC 8435's multipath_list4: "each a netid (1 to 8 bytes) and an address (1 to 64 bytes)"
 use Prim.Native.Nat.{ℕ}
 use mathlib.Core.List.{List}
+use Rattle.base.specs.Limits.{longestAddress, longestNetid}
 use Rattle.numbers.specs.Numbers.{bytesFrom}
 use Rattle.xdr.specs.Res.{Res, ok, then}
 use Rattle.xdr.specs.Items.{opaqueAt}
@@ -11,8 +12,8 @@ use Rattle.netaddr.specs.declared.netid.NetidClass.the-variants.{Other}
 -- the netid becomes its class; of the address, where it stands
 unfoldable pub addressAt : List ℕ → ℕ → Res Address
 addressAt s at =
-    then (opaqueAt 1 8 s at) λ netid p.
-    then (opaqueAt 1 64 s p) λ text q.
+    then (opaqueAt 1 longestNetid s at) λ netid p.
+    then (opaqueAt 1 longestAddress s p) λ text q.
     ok (record { class = classOf (bytesFrom (netid .len) s (netid .start)); text = text }) q
 
 -- what stands in a place without an address

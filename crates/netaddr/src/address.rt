@@ -2,6 +2,8 @@
 use crate::netid::NetidClass;
 use crate::netid::class_of;
 use base::Fault;
+use base::LONGEST_ADDRESS;
+use base::LONGEST_NETID;
 use xdr::Cursor;
 use xdr::Part;
 use xdr::ReadPart;
@@ -25,11 +27,11 @@ pub enum ReadAddress {
 pub fn read_address(s: &[u8], c: Cursor) -> ReadAddress
     ensures { λ r. ⌜ resOfAddress r ≡ addressAt (now (s .entry)) (c .at) ⌝ }
 {
-    let first = xdr::read_opaque(s, c, 1, 8);
+    let first = xdr::read_opaque(s, c, 1, LONGEST_NETID);
     let ReadPart::Value(netid, d) = first else {
         return ReadAddress::Refused(xdr::why_part(first));
     };
-    let second = xdr::read_opaque(s, d, 1, 64);
+    let second = xdr::read_opaque(s, d, 1, LONGEST_ADDRESS);
     let ReadPart::Value(text, e) = second else {
         return ReadAddress::Refused(xdr::why_part(second));
     };

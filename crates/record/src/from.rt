@@ -1,6 +1,7 @@
 // The table that a record stands for.
 use crate::types::SegmentRecord;
 use crate::types::TableRecord;
+use base::MOST_SEGMENTS;
 use base::SlotNumber;
 use segments::BLANK;
 use segments::Right;
@@ -74,15 +75,15 @@ pub fn table_of(r: TableRecord) -> Taken
     ensures { λ x. ⌜ x ≡ takenOf (tableIn r) ⌝ }
 {
     let mut read = Segments {
-        items: [BLANK; 32],
+        items: [BLANK; MOST_SEGMENTS],
         count: r.read_count as usize,
     };
     let mut rw = Segments {
-        items: [BLANK; 32],
+        items: [BLANK; MOST_SEGMENTS],
         count: r.rw_count as usize,
     };
     let mut i: usize = 0;
-    while i < 32 {
+    while i < MOST_SEGMENTS {
         let a = r.read[i];
         let x = segment_of(a);
         let ReadSegment::Value(s) = x else {

@@ -2,6 +2,7 @@
 use crate::types::SegmentRecord;
 use crate::types::TableRecord;
 use crate::types::ZEROS;
+use base::MOST_SEGMENTS;
 use segments::Segment;
 use segments::Table;
 ghost use mathlib.Core.Path.{_≡_};
@@ -26,13 +27,13 @@ pub fn record_of(t: Table) -> TableRecord
     let g = t.read;
     let h = t.rw;
     let mut r = TableRecord {
-        read: [ZEROS; 32],
-        rw: [ZEROS; 32],
+        read: [ZEROS; MOST_SEGMENTS],
+        rw: [ZEROS; MOST_SEGMENTS],
         read_count: g.count as u64,
         rw_count: h.count as u64,
     };
     let mut i: usize = 0;
-    while i < 32 {
+    while i < MOST_SEGMENTS {
         let a = g.items[i];
         let x = segment_record(a);
         r.read[i] = x;

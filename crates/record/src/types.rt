@@ -1,4 +1,5 @@
 // The records, laid out as C lays them out.
+use base::MOST_SEGMENTS;
 
 // The kind of a right is 0 for none, 1 for granted, 2 for recalled; with none the slot is 0.
 #[repr(C)]
@@ -12,8 +13,8 @@ pub struct SegmentRecord {
 // All 32 places of each iomode are there, used or not.
 #[repr(C)]
 pub struct TableRecord {
-    pub read: [SegmentRecord; 32],
-    pub rw: [SegmentRecord; 32],
+    pub read: [SegmentRecord; MOST_SEGMENTS],
+    pub rw: [SegmentRecord; MOST_SEGMENTS],
     pub read_count: u64,
     pub rw_count: u64,
 }

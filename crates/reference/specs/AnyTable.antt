@@ -4,6 +4,7 @@ use mathlib.Core.Path.{_≡_}
 use mathlib.Core.Bool.{true}
 use mathlib.Core.List.{List}
 use lib.ListN.{length, getD}
+use Rattle.base.specs.Limits.{longestBody, mostSegments, slotCount}
 use Rattle.base.specs.Lists.{Each}
 use Rattle.base.specs.Ranges.{lastByte}
 use Rattle.numbers.specs.Numbers.{AllBytes}
@@ -24,7 +25,7 @@ EndsBy N s = s .last ≤ N
 
 -- 32 places an iomode, last bytes that are numbers up to N (2^64 - 1 in a call), and a store of bytes
 pub record Typed (N : ℕ) (t : Table) (store : List ℕ) : Type 0 where
-  pub places : (m : Mode) → length (segmentsFor t m .items) ≡ 32
+  pub places : (m : Mode) → length (segmentsFor t m .items) ≡ mostSegments
   pub ends : (m : Mode) → Each (EndsBy N) (listIn t m)
   pub bytes : AllBytes store
 
@@ -39,7 +40,7 @@ modelOf t store = record { right = rightIn t store; slots = slotsIn t store }
 -- a body that a grant may bring; `small` follows from `read`, and spares the laws of slots that step
 pub record GoodBody (b : Body) : Type 0 where
   pub read : isAccepted (layoutBody b) ≡ true
-  pub small : length b ≤ 4090
+  pub small : length b ≤ longestBody
   pub bytes : AllBytes b
 
 -- the body of a right is in a slot
@@ -50,11 +51,11 @@ Housed ss (recalled b) = inSlots b ss ≡ true
 
 -- eight slots, no two alike, each with a good body that a right of some byte names; each right's body in a slot; at most 32 segments an iomode
 pub record Invariant (N : ℕ) (M : Model) : Type 0 where
-  pub eight : length (M .slots) ≡ 8
+  pub eight : length (M .slots) ≡ slotCount
   pub apart : noTwoAlike (M .slots) ≡ true
   pub good : (i : ℕ) (b : Body) → getD (M .slots) i empty ≡ holds b → GoodBody b
   pub housed : (m : Mode) (x : ℕ) → x ≤ N → Housed (M .slots) (M .right m x)
-  pub few : (m : Mode) → length (segmentsIn N M m) ≤ 32
+  pub few : (m : Mode) → length (segmentsIn N M m) ≤ mostSegments
   pub named : (i : ℕ) (b : Body) → getD (M .slots) i empty ≡ holds b → anyByte N (λ m x. isUnder b (M .right m x)) ≡ true
 
 -- table and store are those of such a model

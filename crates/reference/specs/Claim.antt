@@ -5,6 +5,7 @@ use mathlib.Core.Path.{_≡_}
 use mathlib.Core.Bool.{Bool, false}
 use mathlib.Core.List.{List, [], _∷_, _++_}
 use lib.ListN.{length, replicate, getD}
+use Rattle.base.specs.Limits.{storeSize}
 use Rattle.base.specs.Answer.{Answer, accepted, refused}
 use Rattle.base.specs.Lists.{Each}
 use Rattle.base.specs.Ranges.{lastByte}
@@ -135,7 +136,7 @@ module _ {K L : Type 0} (table : K → Table) (first : K) (ref : Reference L) (c
     -- "and the ledger shows the same"
     pub same-rights : (m : Mode) (x : ℕ) → x ≤ lastByte → M .right m x ≡ rightGiven (acceptedOf es got) m x none
     -- "An accepted event changes no right outside its range and iomode; a refused one changes nothing."
-    pub confined : EachConfined table call es first (replicate 32768 0)
+    pub confined : EachConfined table call es first (replicate storeSize 0)
     -- "The table kept is the one worked out afresh from those rights and the ledger's slots."
     pub same-table : t ≡ tableOf lastByte M
     -- and those are the slots that table and store show
@@ -153,7 +154,7 @@ module _ {K L : Type 0} (table : K → Table) (first : K) (ref : Reference L) (c
   abbrev pub Demand3 : Type 0
   Demand3 = (es : List Event) → Each Fits es
       → Agreed es
-      (answered call es first (replicate 32768 0))
-      (table (keptLeft call es first (replicate 32768 0)))
-      (storeLeft call es first (replicate 32768 0))
+      (answered call es first (replicate storeSize 0))
+      (table (keptLeft call es first (replicate storeSize 0)))
+      (storeLeft call es first (replicate storeSize 0))
       (ref .model (run ref es (ref .first)))

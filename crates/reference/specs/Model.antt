@@ -4,6 +4,7 @@ use mathlib.Core.Bool.{Bool, true, false, not, _&&_, _||_}
 use mathlib.Core.List.{List, [], _∷_, map}
 use lib.ListN.{length, replicate}
 use lib.Dec.{ltb}
+use Rattle.base.specs.Limits.{mostSegments, slotCount}
 use Rattle.base.specs.Answer.{Answer, accepted, refused, given, pick}
 use Rattle.base.specs.Iomodes.{iomodeOf}
 use Rattle.base.specs.Ranges.{lastByte, rangeLast, toTheEnd}
@@ -30,7 +31,7 @@ pub record Model : Type 0 where
 
 -- "a right for every byte in each iomode, at first none, and eight slots, at first empty"
 abbrev pub start : Model
-start = record { right = λ m x. none; slots = replicate 8 empty }
+start = record { right = λ m x. none; slots = replicate slotCount empty }
 
 -- ---- events
 
@@ -223,7 +224,7 @@ module _ (N : ℕ) where
 
   -- 23: "the resulting table would need more than 32 segments in an iomode"
   unfoldable pub tooMany : Model → Bool
-  tooMany M = ltb 32 (length (segmentsIn M READ)) || ltb 32 (length (segmentsIn M RW))
+  tooMany M = ltb mostSegments (length (segmentsIn M READ)) || ltb mostSegments (length (segmentsIn M RW))
 
   -- "then 21, 22, 25, 24, 23"; 0 for accepted
   unfoldable pub verdict : Order → Model → ℕ

@@ -4,6 +4,7 @@ use mathlib.Core.Bool.{Bool, true, false, not, _&&_}
 use mathlib.Core.List.{List, [], _∷_}
 use lib.ListN.{length, drop}
 use lib.Dec.{leb, ltb, eqb}
+use Rattle.base.specs.Limits.{longestBody, mostSegments, slotCount, slotHeadSize, storeSize}
 use Rattle.base.specs.Answer.{Answer, accepted, refused, pick}
 use Rattle.numbers.specs.Numbers.{allZero}
 use Rattle.layout.specs.Layouts.{layoutBody}
@@ -21,8 +22,8 @@ use Rattle.reference.specs.Model.{inSlots}
 -- a right that a segment may have: not none, and under one of the eight slots
 abbrev pub hasSlot : Right → Bool
 hasSlot None = false
-hasSlot (Granted s) = ltb (s .0) 8
-hasSlot (Recalled s) = ltb (s .0) 8
+hasSlot (Granted s) = ltb (s .0) slotCount
+hasSlot (Recalled s) = ltb (s .0) slotCount
 
 -- "Segments stand in rising order .. Neighbours that touch with the same right and body are one segment."
 unfoldable pub apart : Segment → Segment → Bool
@@ -51,7 +52,7 @@ allBlank (s ∷ l) = isBlank s && allBlank l
 
 -- "segments as above, at most 32 an iomode, blank places blank"
 unfoldable pub segmentsSound : Segments → Bool
-segmentsSound g = leb (g .count) 32 && inOrder (listOf g) && allBlank (drop (g .count) (g .items))
+segmentsSound g = leb (g .count) mostSegments && inOrder (listOf g) && allBlank (drop (g .count) (g .items))
 
 -- ---- slots
 
@@ -63,10 +64,10 @@ isAccepted (refused n) = false
 -- "named slots are laid out as said and hold accepted bodies .. unnamed slots zero"
 unfoldable pub slotSound : Bool → List ℕ → Bool
 slotSound true slot =
-    leb (lengthIn slot) 4090
+    leb (lengthIn slot) longestBody
     && eqb (kindIn slot) 4
     && isAccepted (layoutBody (bodyIn slot))
-    && allZero (drop (6 + lengthIn slot) slot)
+    && allZero (drop (slotHeadSize + lengthIn slot) slot)
 slotSound false slot = allZero slot
 
 -- k slots from slot i on
@@ -82,7 +83,7 @@ slotsFrom named store (suc k) i =
 
 -- the slots as table and store have them
 unfoldable pub slotsIn : Table → List ℕ → List Slot
-slotsIn t store = slotsFrom (isNamed t) store 8 0
+slotsIn t store = slotsFrom (isNamed t) store slotCount 0
 
 -- "no two alike"
 unfoldable pub noTwoAlike : List Slot → Bool
@@ -96,6 +97,6 @@ unfoldable pub sound : Table → List ℕ → Bool
 sound t store =
     segmentsSound (t .read)
     && segmentsSound (t .rw)
-    && slotsSound t store 8 0
+    && slotsSound t store slotCount 0
     && noTwoAlike (slotsIn t store)
-    && eqb (length store) 32768
+    && eqb (length store) storeSize

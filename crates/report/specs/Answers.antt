@@ -2,6 +2,7 @@
 use Prim.Native.Nat.{ℕ}
 use mathlib.Core.List.{List, [], _++_, map}
 use lib.ListN.{length, replicate}
+use Rattle.base.specs.Limits.{mostReports, stateidSize}
 use Rattle.base.specs.Answer.{Answer, accepted, refused, given}
 use Rattle.base.specs.Lists.{padded}
 use Rattle.base.specs.Refusals.{faultNumber}
@@ -28,7 +29,7 @@ resOfError (error.Refused e) = no (faultNumber e)
 
 -- a head whose stateid stands in the bytes s
 abbrev pub headFrom : List ℕ → HeadItem → ReportHead
-headFrom s h = record { offset = h .offset; length = h .length; stateid = bytesFrom 16 s (h .stateid); errors = h .errors }
+headFrom s h = record { offset = h .offset; length = h .length; stateid = bytesFrom stateidSize s (h .stateid); errors = h .errors }
 
 abbrev pub resOfHead : List ℕ → ReadHead → Res ReportHead
 resOfHead s (head.Value h c) = ok (headFrom s h) (c .at)
@@ -41,15 +42,15 @@ resOfReport s (report.Refused e) = no (faultNumber e)
 -- ---- the arrays of 8 places
 
 abbrev pub blankHead : ReportHead
-blankHead = record { offset = 0; length = 0; stateid = replicate 16 0; errors = 0 }
+blankHead = record { offset = 0; length = 0; stateid = replicate stateidSize 0; errors = 0 }
 
 -- the heads, blank past the list
 abbrev pub headsOf : List Report → List ReportHead
-headsOf rs = padded 8 blankHead (map (λ (r : Report). r .head) rs)
+headsOf rs = padded mostReports blankHead (map (λ (r : Report). r .head) rs)
 
 -- where the first error of each report stands
 abbrev pub placesOf : List Report → List ℕ
-placesOf rs = padded 8 0 (map (λ (r : Report). r .errors-at) rs)
+placesOf rs = padded mostReports 0 (map (λ (r : Report). r .errors-at) rs)
 
 -- a refusal "gives its number, no other result"
 abbrev pub reportsIn : Answer (List Report) → List Report

@@ -6,7 +6,7 @@ use mathlib.Core.Bool.{Bool, _&&_, _||_, not}
 use lib.ListN.{length}
 use lib.Dec.{eqb}
 use Rattle.base.specs.Answer.{Answer, pick}
-use Rattle.base.specs.Limits.{mostReports}
+use Rattle.base.specs.Limits.{deviceIdSize, mostErrors, mostReports, stateidSize}
 use Rattle.base.specs.Ranges.{rangeLast}
 use Rattle.numbers.specs.Numbers.{bytesFrom}
 use Rattle.xdr.specs.Res.{Res, ok, no, then, manyAt, whole, asItem}
@@ -21,7 +21,7 @@ errorFits status operation = not (eqb status 0) && (eqb operation 5 || (eqb oper
 -- "errors of device id, status, operation; an error is judged when all three are read"
 unfoldable pub errorAt : List ℕ → ℕ → Res ErrorItem
 errorAt s at =
-    then (bytesAt 16 s at) λ device p1.
+    then (bytesAt deviceIdSize s at) λ device p1.
     then (numAt 4 s p1) λ status p2.
     then (numAt 4 s p2) λ operation p3.
     pick (errorFits status operation)
@@ -34,9 +34,9 @@ headAt s at =
     then (numAt 8 s at) λ offset p1.
     then (numAt 8 s p1) λ len p2.
     then (asItem (rangeLast offset len) p2) λ last p.
-    then (bytesAt 16 s p) λ stateid p3.
-    then (countAt 1 16 s p3) λ n p4.
-    ok (record { offset = offset; length = len; stateid = bytesFrom 16 s (stateid .start); errors = n }) p4
+    then (bytesAt stateidSize s p) λ stateid p3.
+    then (countAt 1 mostErrors s p3) λ n p4.
+    ok (record { offset = offset; length = len; stateid = bytesFrom stateidSize s (stateid .start); errors = n }) p4
 
 -- a report that was read: what stands before its errors, and the place of the first of them
 pub record Report : Type 0 where

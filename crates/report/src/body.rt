@@ -5,12 +5,16 @@ use crate::head::head_of;
 use crate::head::read_report;
 use crate::head::why_report;
 use base::Fault;
+use base::MOST_REPORTS;
+use base::REPORT_PLACES;
+use base::STATEID_SIZE;
 use xdr::Cursor;
 use xdr::ReadEnd;
 use xdr::ReadU32;
 ghost use mathlib.Core.Path.{_≡_};
 ghost use Prim.Native.Nat.{_≤_};
 ghost use mathlib.Core.List.{[]};
+ghost use Rattle.base.specs.Limits.{mostReports};
 ghost use Rattle.base.specs.Answer.{refused as refusedBy};
 ghost use Rattle.base.specs.Refusals.{faultNumber};
 ghost use Rattle.xdr.specs.Answers.{resOfEnd};
@@ -27,22 +31,22 @@ pub enum ReportAnswer {
 // The reports' heads, and where the first error of each stands. Places past the count are blank, and so is each after a refusal.
 pub struct ReportsRead {
     pub answer: ReportAnswer,
-    pub heads: [ReportHead; 8],
-    pub errors_at: [usize; 8],
+    pub heads: [ReportHead; REPORT_PLACES],
+    pub errors_at: [usize; REPORT_PLACES],
 }
 
 // The first half of the body: how many reports it has, and the same arrays; `end` is the place behind the reports.
 pub struct Arrays {
     pub end: ReadEnd,
     pub count: u32,
-    pub heads: [ReportHead; 8],
-    pub errors_at: [usize; 8],
+    pub heads: [ReportHead; REPORT_PLACES],
+    pub errors_at: [usize; REPORT_PLACES],
 }
 
 fn blank_head() -> ReportHead
     ensures { λ r. ⌜ r ≡ blankHead ⌝ }
 {
-    let stateid = [0u8; 16];
+    let stateid = [0u8; STATEID_SIZE];
     ReportHead {
         offset: 0,
         length: 0,
@@ -52,12 +56,12 @@ fn blank_head() -> ReportHead
 }
 
 fn read_arrays(s: &[u8], c: Cursor, n: u32) -> Arrays
-    requires { ⌜ n ≤ 8 ⌝ }
+    requires { ⌜ n ≤ mostReports ⌝ }
     ensures { λ r. ⌜ resOfArrays (r .end) (r .count) (r .heads) (r .«errors_at») ≡ arraysFrom [] (manyAt reportAt n (now (s .entry)) (c .at)) ⌝ }
 {
     let blank = blank_head();
-    let mut heads = [blank; 8];
-    let mut errors_at = [0usize; 8];
+    let mut heads = [blank; REPORT_PLACES];
+    let mut errors_at = [0usize; REPORT_PLACES];
     let mut d = c;
     let mut i: usize = 0;
     let count = n as usize;
@@ -92,15 +96,15 @@ fn read_arrays(s: &[u8], c: Cursor, n: u32) -> Arrays
 fn reports_part(s: &[u8]) -> Arrays
     ensures { λ r. ⌜ resOfArrays (r .end) (r .count) (r .heads) (r .«errors_at») ≡ arraysFrom [] (reportsAt (now (s .entry)) 0) ⌝ }
 {
-    let r = xdr::read_count(s, Cursor { at: 0 }, 0, base::MOST_REPORTS as u32);
+    let r = xdr::read_count(s, Cursor { at: 0 }, 0, MOST_REPORTS);
     let ReadU32::Value(n, c) = r else {
         let end = ReadEnd::Refused(xdr::why_u32(r));
         let blank = blank_head();
         return Arrays {
             end: end,
             count: 0,
-            heads: [blank; base::MOST_REPORTS],
-            errors_at: [0usize; base::MOST_REPORTS],
+            heads: [blank; REPORT_PLACES],
+            errors_at: [0usize; REPORT_PLACES],
         };
     };
     read_arrays(s, c, n)
@@ -121,8 +125,8 @@ fn refused(e: Fault) -> ReportsRead
     ensures { λ r. ⌜ (answerOfCount (r .answer) ≡ refusedBy (faultNumber e)) × (r .heads ≡ headsOf []) × (r .«errors_at» ≡ placesOf []) ⌝ }
 {
     let blank = blank_head();
-    let heads = [blank; 8];
-    let errors_at = [0usize; 8];
+    let heads = [blank; REPORT_PLACES];
+    let errors_at = [0usize; REPORT_PLACES];
     let answer = ReportAnswer::Refused(e);
     ReportsRead {
         answer: answer,

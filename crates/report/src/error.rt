@@ -1,5 +1,6 @@
 // One error, and a run of errors.
 use crate::ErrorItem;
+use base::DEVICE_ID_SIZE;
 use base::Fault;
 use xdr::Cursor;
 use xdr::ReadEnd;
@@ -34,7 +35,7 @@ pub fn error_fits(status: u32, operation: u32) -> bool
 pub fn read_error(s: &[u8], c: Cursor) -> ReadError
     ensures { λ r. ⌜ resOfError r ≡ errorAt (now (s .entry)) (c .at) ⌝ }
 {
-    let rd = xdr::read_bytes(s, c, 16);
+    let rd = xdr::read_bytes(s, c, DEVICE_ID_SIZE);
     let ReadPart::Value(device, c1) = rd else {
         return ReadError::Refused(xdr::why_part(rd));
     };

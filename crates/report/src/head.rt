@@ -3,6 +3,8 @@ use crate::ReportHead;
 use crate::error::read_errors;
 use base::Fault;
 use base::Last;
+use base::MOST_ERRORS;
+use base::STATEID_SIZE;
 use xdr::Cursor;
 use xdr::ReadEnd;
 use xdr::ReadPart;
@@ -10,6 +12,7 @@ use xdr::ReadU32;
 use xdr::ReadU64;
 ghost use mathlib.Core.Path.{_≡_};
 ghost use mathlib.Core.List.{[]};
+ghost use Rattle.base.specs.Limits.{stateidSize};
 ghost use Rattle.xdr.specs.Res.{faultIn};
 ghost use Rattle.base.specs.Refusals.{faultNumber};
 ghost use Prim.Native.Nat.{_+_, _≤_};
@@ -37,13 +40,13 @@ pub enum ReadReport {
     Refused(Fault),
 }
 
-fn stateid_at(s: &[u8], at: usize) -> [u8; 16]
-    requires { ⌜ at + 16 ≤ length (now s) ⌝ }
-    ensures { λ r. ⌜ r ≡ bytesFrom 16 (now (s .entry)) at ⌝ }
+fn stateid_at(s: &[u8], at: usize) -> [u8; STATEID_SIZE]
+    requires { ⌜ at + stateidSize ≤ length (now s) ⌝ }
+    ensures { λ r. ⌜ r ≡ bytesFrom stateidSize (now (s .entry)) at ⌝ }
 {
-    let mut stateid = [0u8; 16];
+    let mut stateid = [0u8; STATEID_SIZE];
     let mut i: usize = 0;
-    while i < 16 {
+    while i < STATEID_SIZE {
         stateid[i] = s[at + i];
         i += 1;
     }
@@ -51,7 +54,7 @@ fn stateid_at(s: &[u8], at: usize) -> [u8; 16]
 }
 
 pub(crate) fn head_of(s: &[u8], item: HeadItem) -> ReportHead
-    requires { ⌜ item .stateid + 16 ≤ length (now s) ⌝ }
+    requires { ⌜ item .stateid + stateidSize ≤ length (now s) ⌝ }
     ensures { λ r. ⌜ r ≡ headFrom (now (s .entry)) item ⌝ }
 {
     let at = item.stateid;
@@ -80,11 +83,11 @@ pub(crate) fn read_head(s: &[u8], c: Cursor) -> ReadHead
     let Last::At(_) = last else {
         return ReadHead::Refused(base::why_last(last));
     };
-    let rs = xdr::read_bytes(s, c2, 16);
+    let rs = xdr::read_bytes(s, c2, STATEID_SIZE);
     let ReadPart::Value(part, c3) = rs else {
         return ReadHead::Refused(xdr::why_part(rs));
     };
-    let rn = xdr::read_count(s, c3, 1, 16);
+    let rn = xdr::read_count(s, c3, 1, MOST_ERRORS);
     let ReadU32::Value(errors, c4) = rn else {
         return ReadHead::Refused(xdr::why_u32(rn));
     };

@@ -3,6 +3,7 @@ mod body;
 mod error;
 mod head;
 
+use base::STATEID_SIZE;
 pub use body::ReportAnswer;
 pub use body::ReportsRead;
 pub use body::read_reports;
@@ -15,7 +16,7 @@ pub use error::read_error;
 pub struct ReportHead {
     pub offset: u64,
     pub length: u64,
-    pub stateid: [u8; 16],
+    pub stateid: [u8; STATEID_SIZE],
     pub errors: u32,
 }
 

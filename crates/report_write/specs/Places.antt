@@ -3,6 +3,7 @@ use Prim.Native.Nat.{ℕ, _+_, _*_, _^_, _<_}
 use mathlib.Core.Path.{_≡_}
 use mathlib.Core.List.{List, [], _∷_, _++_}
 use lib.ListN.{length}
+use Rattle.base.specs.Limits.{deviceIdSize, errorSize, reportHeadSize, stateidSize}
 use Rattle.report.specs.Reports.{Report}
 use Rattle.report.specs.declared.ReportHead.{ReportHead}
 use Rattle.report_write.specs.Writing.{ErrorRecord, recordsAt}
@@ -10,7 +11,7 @@ use Rattle.report_write.specs.Writing.{ErrorRecord, recordsAt}
 -- reports that are written from a place on: 36 bytes, then the errors of 24 bytes each
 unfoldable pub placed : List ReportHead → ℕ → List Report
 placed [] at = []
-placed (h ∷ hs) at = record { head = h; errors-at = at + 36 } ∷ placed hs (at + 36 + 24 * h .errors)
+placed (h ∷ hs) at = record { head = h; errors-at = at + reportHeadSize } ∷ placed hs (at + reportHeadSize + errorSize * h .errors)
 
 -- the records of the reports' errors, in order
 unfoldable pub recordsIn : List ℕ → List Report → List ErrorRecord
@@ -20,7 +21,7 @@ recordsIn s (r ∷ rs) = recordsAt (r .head .errors) s (r .errors-at) ++ records
 -- ---- values as wide as their fields; an error count that may be written is at most 16
 
 abbrev pub HeadFits : ReportHead → Type 0
-HeadFits h = (h .offset < 256 ^ 8) × (h .length < 256 ^ 8) × (length (h .stateid) ≡ 16)
+HeadFits h = (h .offset < 256 ^ 8) × (h .length < 256 ^ 8) × (length (h .stateid) ≡ stateidSize)
 
 abbrev pub RecordFits : ErrorRecord → Type 0
-RecordFits e = (length (e .device) ≡ 16) × (e .status < 256 ^ 4) × (e .operation < 256 ^ 4)
+RecordFits e = (length (e .device) ≡ deviceIdSize) × (e .status < 256 ^ 4) × (e .operation < 256 ^ 4)

@@ -5,7 +5,7 @@ use mathlib.Core.Bool.{Bool, true, _&&_}
 use lib.ListN.{length, take, drop}
 use lib.Dec.{leb, eqb}
 use Rattle.base.specs.Answer.{Answer, accepted, refused, given, pick}
-use Rattle.base.specs.Limits.{errorSize, mostReports}
+use Rattle.base.specs.Limits.{deviceIdSize, errorSize, mostErrors, mostReports, stateidSize}
 use Rattle.base.specs.Ranges.{rangeLast}
 use Rattle.numbers.specs.Numbers.{bytesFrom, beAt, beBytes}
 use Rattle.report.specs.Reports.{errorFits}
@@ -19,7 +19,7 @@ pub record ErrorRecord : Type 0 where
 
 -- the record whose 24 bytes stand at a place. A number that is not there whole is 0: a record that is not there whole is never allowed.
 unfoldable pub recordHere : List ℕ → ℕ → ErrorRecord
-recordHere s at = record { device = bytesFrom 16 s at; status = beAt 4 s (at + 16); operation = beAt 4 s (at + 20) }
+recordHere s at = record { device = bytesFrom deviceIdSize s at; status = beAt 4 s (at + 16); operation = beAt 4 s (at + 20) }
 
 -- the n records from a place on
 unfoldable pub recordsAt : ℕ → List ℕ → ℕ → List ErrorRecord
@@ -31,7 +31,7 @@ recordsAt (suc n) s at = recordHere s at ∷ recordsAt n s (at + errorSize)
 -- each stateid has 16 bytes
 unfoldable pub stateidsWhole : List ReportHead → Bool
 stateidsWhole [] = true
-stateidsWhole (h ∷ hs) = eqb (length (h .stateid)) 16 && stateidsWhole hs
+stateidsWhole (h ∷ hs) = eqb (length (h .stateid)) stateidSize && stateidsWhole hs
 
 -- ---- what is judged
 
@@ -49,7 +49,7 @@ allFit (e ∷ es) = errorFits (e .status) (e .operation) && allFit es
 unfoldable pub judgedOne : ReportHead → List ErrorRecord → Answer (Unit {0})
 judgedOne h es =
     given (rangeLast (h .offset) (h .length)) λ last.
-    pick (leb 1 (h .errors) && leb (h .errors) 16)
+    pick (leb 1 (h .errors) && leb (h .errors) mostErrors)
     (pick (allFit es) (accepted tt) (refused 27))
     (refused 8)
 

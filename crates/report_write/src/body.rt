@@ -5,6 +5,8 @@ use crate::judge::total;
 use crate::judge::why_judged;
 use crate::put::put_reports;
 use base::Fault;
+use base::MOST_REPORTS;
+use base::REPORT_PLACES;
 use base::Refusal;
 use report::ReportHead;
 ghost use mathlib.Core.Path.{_≡_};
@@ -20,7 +22,7 @@ pub enum Written {
 // The body with the bytes of the tail behind the reports.
 fn write_body(
     count: u32,
-    heads: [ReportHead; 8],
+    heads: [ReportHead; REPORT_PLACES],
     list_length: usize,
     errors: &[u8],
     tail: &[u8],
@@ -31,7 +33,7 @@ fn write_body(
         × (now (out .exit) ≡ outputAfter (now (out .entry)) (bodyWritten count heads
         (recordsAt «list_length» (now (errors .entry)) 0) (now (tail .entry)) (length (now (out .entry))))) ⌝ }
 {
-    if 8 < count {
+    if MOST_REPORTS < count {
         return Written::Refused(Refusal::Fault(Fault::OutsideLimit));
     }
     let n = count as usize;
@@ -56,7 +58,7 @@ fn write_body(
 // `errors` holds the error list as wire records of 24 bytes; `list_length` is how long the list is.
 pub fn write_reports(
     count: u32,
-    heads: [ReportHead; 8],
+    heads: [ReportHead; REPORT_PLACES],
     list_length: usize,
     errors: &[u8],
     out: &mut [u8],

@@ -1,8 +1,11 @@
 // Whether reports may be written: the sum of their error counts, and each report in order.
 use base::Fault;
 use base::Last;
+use base::MOST_ERRORS;
+use base::REPORT_PLACES;
 use report::ReportHead;
 ghost use mathlib.Core.Path.{_≡_};
+ghost use Rattle.base.specs.Limits.{errorSize, mostReports, stateidSize};
 ghost use Rattle.base.specs.Answer.{refusalIn};
 ghost use Rattle.base.specs.Refusals.{faultNumber};
 ghost use Prim.Native.Nat.{_+_, _*_, _≤_};
@@ -18,14 +21,14 @@ pub enum Judged {
 
 // The error count of a head. A caller cannot see how long an element's stateid is, so this says it.
 fn errors_of(head: ReportHead) -> u64
-    ensures { λ r. ⌜ (r ≡ head .errors) × (r ≤ 4294967295) × (length (head .stateid) ≡ 16) ⌝ }
+    ensures { λ r. ⌜ (r ≡ head .errors) × (r ≤ 4294967295) × (length (head .stateid) ≡ stateidSize) ⌝ }
 {
     head.errors as u64
 }
 
 // The error counts together: at most eight of 32 bits, so 64 bits hold the sum.
-pub(crate) fn total(heads: [ReportHead; 8], count: usize) -> u64
-    requires { ⌜ count ≤ 8 ⌝ }
+pub(crate) fn total(heads: [ReportHead; REPORT_PLACES], count: usize) -> u64
+    requires { ⌜ count ≤ mostReports ⌝ }
     ensures { λ r. ⌜ (r ≡ counts (take count heads)) × (stateidsWhole (take count heads) ≡ true) ⌝ }
 {
     let mut sum: u64 = 0;
@@ -43,7 +46,7 @@ pub(crate) fn total(heads: [ReportHead; 8], count: usize) -> u64
 
 // The n records from a place on: each may be written.
 fn errors_fit(errors: &[u8], from: usize, n: usize) -> bool
-    requires { ⌜ from + 24 * n ≤ 65536 ⌝ }
+    requires { ⌜ from + errorSize * n ≤ 65536 ⌝ }
     ensures { λ r. ⌜ r ≡ allFit (recordsAt n (now (errors .entry)) from) ⌝ }
 {
     let mut at = from;
@@ -72,7 +75,7 @@ fn judge_one(head: ReportHead, errors: &[u8], from: usize) -> Judged
     if head.errors < 1 {
         return Judged::Refused(Fault::OutsideLimit);
     }
-    if 16 < head.errors {
+    if MOST_ERRORS < head.errors {
         return Judged::Refused(Fault::OutsideLimit);
     }
     let n = head.errors as usize;
@@ -83,8 +86,8 @@ fn judge_one(head: ReportHead, errors: &[u8], from: usize) -> Judged
 }
 
 // The reports in order.
-pub(crate) fn judge(heads: [ReportHead; 8], count: usize, errors: &[u8]) -> Judged
-    requires { ⌜ count ≤ 8 ⌝ }
+pub(crate) fn judge(heads: [ReportHead; REPORT_PLACES], count: usize, errors: &[u8]) -> Judged
+    requires { ⌜ count ≤ mostReports ⌝ }
     ensures { λ r. ⌜ answerOfJudged r ≡ judged (take count heads) (recordsAt (counts (take count heads)) (now (errors .entry)) 0) ⌝ }
 {
     let mut from: usize = 0;

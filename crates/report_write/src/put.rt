@@ -1,9 +1,13 @@
 // Error records and reports stored into a buffer.
+use base::ERROR_SIZE;
+use base::REPORT_HEAD_SIZE;
+use base::REPORT_PLACES;
 use report::ReportHead;
 ghost use mathlib.Core.Path.{_≡_};
 ghost use Prim.Native.Nat.{_+_, _*_, _≤_};
 ghost use lib.ListN.{length, take};
 ghost use lib.Seq.{sets};
+ghost use Rattle.base.specs.Limits.{errorSize, mostReports, reportHeadSize, stateidSize};
 ghost use Rattle.buffers.specs.Buffers.{stored};
 ghost use Rattle.report_write.specs.Writing.{counts, errorBytes, errorsBytes, headBytes, recordsAt, reportsBytes};
 
@@ -29,7 +33,7 @@ pub fn put_error(buf: &mut [u8], at: usize, device: &[u8], status: u32, operatio
 
 // The n records from a place on. They stand there as they are written.
 fn put_errors(out: &mut [u8], at: usize, errors: &[u8], from: usize, n: usize)
-    requires { ⌜ (at + 24 * n ≤ length (now out)) × (from + 24 * n ≤ length (now errors)) ⌝ }
+    requires { ⌜ (at + errorSize * n ≤ length (now out)) × (from + errorSize * n ≤ length (now errors)) ⌝ }
     ensures { λ r. ⌜ now (out .exit) ≡ sets (now (out .entry)) at (errorsBytes (recordsAt n (now (errors .entry)) from)) ⌝ }
 {
     let to = from + base::ERROR_SIZE * n;
@@ -37,8 +41,8 @@ fn put_errors(out: &mut [u8], at: usize, errors: &[u8], from: usize, n: usize)
 }
 
 fn put_head(out: &mut [u8], at: usize, head: ReportHead)
-    requires { ⌜ at + 36 ≤ length (now out) ⌝ }
-    ensures { λ r. ⌜ (now (out .exit) ≡ sets (now (out .entry)) at (headBytes head)) × (length (head .stateid) ≡ 16) ⌝ }
+    requires { ⌜ at + reportHeadSize ≤ length (now out) ⌝ }
+    ensures { λ r. ⌜ (now (out .exit) ≡ sets (now (out .entry)) at (headBytes head)) × (length (head .stateid) ≡ stateidSize) ⌝ }
 {
     let stateid = head.stateid;
     buffers::put_be8(out, at, head.offset);
@@ -48,8 +52,13 @@ fn put_head(out: &mut [u8], at: usize, head: ReportHead)
 }
 
 // The reports in order, from place 4 on.
-pub(crate) fn put_reports(out: &mut [u8], heads: [ReportHead; 8], count: usize, errors: &[u8])
-    requires { ⌜ (count ≤ 8) × (4 + 36 * count + 24 * counts (take count heads) ≤ length (now out)) × (24 * counts (take count heads) ≤ length (now errors)) ⌝ }
+pub(crate) fn put_reports(
+    out: &mut [u8],
+    heads: [ReportHead; REPORT_PLACES],
+    count: usize,
+    errors: &[u8],
+)
+    requires { ⌜ (count ≤ mostReports) × (4 + reportHeadSize * count + errorSize * counts (take count heads) ≤ length (now out)) × (errorSize * counts (take count heads) ≤ length (now errors)) ⌝ }
     ensures { λ r. ⌜ now (out .exit) ≡ sets (now (out .entry)) 4 (reportsBytes (take count heads) (recordsAt (counts (take count heads)) (now (errors .entry)) 0)) ⌝ }
 {
     let mut p: usize = 4;
@@ -59,8 +68,8 @@ pub(crate) fn put_reports(out: &mut [u8], heads: [ReportHead; 8], count: usize, 
         let head = heads[i];
         let n = head.errors as usize;
         put_head(out, p, head);
-        put_errors(out, p + 36, errors, from, n);
-        p += 36 + 24 * n;
+        put_errors(out, p + REPORT_HEAD_SIZE, errors, from, n);
+        p += REPORT_HEAD_SIZE + ERROR_SIZE * n;
         from += base::ERROR_SIZE * n;
         i += 1;
     }

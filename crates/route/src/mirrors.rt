@@ -1,15 +1,17 @@
 // The mirrors that an I/O names.
+use base::MOST_STARTS;
 use base::MirrorNumber;
 use base::StripeNumber;
 use layout::Summary;
 ghost use mathlib.Core.Path.{_≡_};
 ghost use mathlib.Core.Bool.{not, _&&_};
 ghost use Prim.Native.Nat.{_^_, _≤_, _<_};
+ghost use Rattle.base.specs.Limits.{mostMirrors};
 ghost use Rattle.route.specs.Mirrors.{bestMirror, efficiencyOf};
 ghost use Rattle.route.specs.Routes.{mirrorsNamed, oneMirror};
 
 // The efficiency of a mirror's server of a stripe.
-fn efficiency(body: &[u8], starts: [u16; 128], stripe: StripeNumber, m: MirrorNumber) -> u32
+fn efficiency(body: &[u8], starts: [u16; MOST_STARTS], stripe: StripeNumber, m: MirrorNumber) -> u32
     ensures { λ r. ⌜ r ≡ efficiencyOf (now (body .entry)) starts (stripe .0) (m .0) ⌝ }
 {
     let start = layout::start_of(starts, m, stripe) as usize;
@@ -19,7 +21,7 @@ fn efficiency(body: &[u8], starts: [u16; 128], stripe: StripeNumber, m: MirrorNu
 // The mirror with the highest efficiency, the lowest number on a tie, by the servers of one stripe.
 pub(crate) fn best_mirror(
     body: &[u8],
-    starts: [u16; 128],
+    starts: [u16; MOST_STARTS],
     mirrors: u32,
     stripe: StripeNumber,
 ) -> MirrorNumber
@@ -42,7 +44,7 @@ pub(crate) fn best_mirror(
 
 // 2 to the n, for n up to 8.
 fn power(n: u32) -> u32
-    requires { ⌜ n ≤ 8 ⌝ }
+    requires { ⌜ n ≤ mostMirrors ⌝ }
     ensures { λ r. ⌜ (r ≡ 2 ^ n) × (1 ≤ r) ⌝ }
 {
     let mut p: u32 = 1;
@@ -64,8 +66,13 @@ fn names_all(write: bool, flags: u32) -> bool
     flags / 8 % 2 != 1
 }
 
-pub(crate) fn mirrors_named(write: bool, body: &[u8], summary: Summary, starts: [u16; 128]) -> u32
-    requires { ⌜ (1 ≤ summary .mirrors) × (summary .mirrors ≤ 8) ⌝ }
+pub(crate) fn mirrors_named(
+    write: bool,
+    body: &[u8],
+    summary: Summary,
+    starts: [u16; MOST_STARTS],
+) -> u32
+    requires { ⌜ (1 ≤ summary .mirrors) × (summary .mirrors ≤ mostMirrors) ⌝ }
     ensures { λ r. ⌜ r ≡ mirrorsNamed write (now (body .entry)) (record { summary = summary; starts = starts }) ⌝ }
 {
     if names_all(write, summary.flags) {

@@ -10,6 +10,7 @@ use crate::rights::slot_asked;
 use crate::stripes::piece_length;
 use crate::stripes::stripe_of;
 use base::Last;
+use base::MOST_STARTS;
 use base::Refusal;
 use layout::LayoutAnswer;
 use layout::Summary;
@@ -24,7 +25,7 @@ ghost use Rattle.route.specs.Routes.{pieceAt, routed};
 pub struct Serving {
     pub grant: Grant,
     pub summary: Summary,
-    pub starts: [u16; base::MOST_STARTS],
+    pub starts: [u16; MOST_STARTS],
 }
 
 // The answer to a request that is served.

@@ -1,5 +1,6 @@
 // What serves a request: the granted segment at its first byte.
 use base::Iomode;
+use base::MOST_SEGMENTS;
 use base::SlotNumber;
 use segments::Right;
 use segments::Segment;
@@ -47,7 +48,7 @@ fn grant_in(iomode: Iomode, g: Segments, x: u64) -> GrantAnswer
     ensures { λ r. ⌜ answerOfGrant r ≡ grantIn iomode (listOf g) x ⌝ }
 {
     let mut i: usize = 0;
-    while i < base::MOST_SEGMENTS {
+    while i < MOST_SEGMENTS {
         if g.count <= i {
             return GrantAnswer::Missing;
         }

@@ -4,6 +4,7 @@ use mathlib.Core.Bool.{Bool, true, false, _&&_, _||_}
 use mathlib.Core.List.{List, [], _∷_}
 use lib.ListN.{length, take}
 use lib.Dec.{leb, eqb}
+use Rattle.base.specs.Limits.{mostSegments}
 use Rattle.base.specs.Answer.{pick}
 use Rattle.base.specs.Lists.{padded}
 use Rattle.base.specs.declared.iomode.Iomode.{Iomode}
@@ -96,7 +97,7 @@ blank = record { first = 0; last = 0; right = None }
 
 -- "the table's other places blank"
 unfoldable pub inPlaces : List Segment → Segments
-inPlaces l = record { items = padded 32 blank l; count = length l }
+inPlaces l = record { items = padded mostSegments blank l; count = length l }
 
 -- the segments in a table's places
 abbrev pub listOf : Segments → List Segment

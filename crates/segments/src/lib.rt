@@ -1,8 +1,10 @@
 // The segments of a table: which bytes have which right, in each iomode.
 use base::Iomode;
+use base::MOST_SEGMENTS;
 use base::SlotNumber;
 ghost use mathlib.Core.Path.{_≡_};
 ghost use Prim.Native.Nat.{min};
+ghost use Rattle.base.specs.Limits.{mostSegments};
 ghost use Rattle.segments.specs.Segments.{actsOn, emptyTable, kindOf, modeOf, sameRight, segmentsFor, slotNumberOf};
 
 // The number names the slot of the layout body under which the bytes are held.
@@ -21,7 +23,7 @@ pub struct Segment {
 
 // The segments of one iomode, in the first count places.
 pub struct Segments {
-    pub items: [Segment; 32],
+    pub items: [Segment; MOST_SEGMENTS],
     pub count: usize,
 }
 
@@ -82,7 +84,7 @@ pub fn empty_table() -> Table
     ensures { λ r. ⌜ r ≡ emptyTable ⌝ }
 {
     let none = Segments {
-        items: [BLANK; 32],
+        items: [BLANK; MOST_SEGMENTS],
         count: 0,
     };
     Table {
@@ -93,12 +95,12 @@ pub fn empty_table() -> Table
 
 // How many of the 32 places a count can mean.
 pub fn used_places(count: usize) -> usize
-    ensures { λ r. ⌜ r ≡ min count 32 ⌝ }
+    ensures { λ r. ⌜ r ≡ min count mostSegments ⌝ }
 {
-    if count < 32 {
+    if count < MOST_SEGMENTS {
         return count;
     }
-    32
+    MOST_SEGMENTS
 }
 
 // The list with a number, so that a walk over both lists asks its question in one place: a function that is called in

@@ -2,7 +2,7 @@
 -- "A server: device id (16), efficiency (4), stateid (16: a 4-byte seqid and 12 more), filehandle count (4) and filehandles, user, group."
 use Prim.Native.Nat.{ℕ, _+_}
 use mathlib.Core.List.{List}
-use Rattle.base.specs.Limits.{deviceIdSize, stateidSize}
+use Rattle.base.specs.Limits.{deviceIdSize, longestFilehandle, longestName, mostFilehandles, stateidSize}
 use Rattle.xdr.specs.Res.{Res, ok, then, manyAt}
 use Rattle.xdr.specs.Items.{bytesAt, countAt, numAt, opaqueAt}
 use Rattle.xdr.specs.declared.Part.{Part}
@@ -22,23 +22,23 @@ handlesOffset = stateidOffset + stateidSize
 -- "1 to 8 filehandles a server"
 unfoldable pub headAt : List ℕ → ℕ → Res ServerHead
 headAt s at =
-    then (bytesAt 16 s at) λ device p1.
+    then (bytesAt deviceIdSize s at) λ device p1.
     then (numAt 4 s p1) λ efficiency p2.
-    then (bytesAt 16 s p2) λ stateid p3.
-    then (countAt 1 8 s p3) λ handles p4.
+    then (bytesAt stateidSize s p2) λ stateid p3.
+    then (countAt 1 mostFilehandles s p3) λ handles p4.
     ok (record { device = device .start; efficiency = efficiency; stateid = stateid .start; handles = handles }) p4
 
 -- "a filehandle of 1 to 128 bytes"
 unfoldable pub handlesAt : ℕ → List ℕ → ℕ → Res (List Part)
-handlesAt n s at = manyAt (opaqueAt 1 128) n s at
+handlesAt n s at = manyAt (opaqueAt 1 longestFilehandle) n s at
 
 -- "user and group of 0 to 64 bytes, content not judged"
 unfoldable pub serverAt : List ℕ → ℕ → Res Server
 serverAt s at =
     then (headAt s at) λ head p1.
     then (handlesAt (head .handles) s p1) λ handles p2.
-    then (opaqueAt 0 64 s p2) λ user p3.
-    then (opaqueAt 0 64 s p3) λ group p4.
+    then (opaqueAt 0 longestName s p2) λ user p3.
+    then (opaqueAt 0 longestName s p3) λ group p4.
     ok (record {
       device = head .device;
       efficiency = head .efficiency;

@@ -1,4 +1,5 @@
 // The filehandles of a data server.
+use base::LONGEST_FILEHANDLE;
 use xdr::Cursor;
 use xdr::ReadEnd;
 use xdr::ReadPart;
@@ -14,7 +15,7 @@ pub fn skip_handles(s: &[u8], c: Cursor, n: u32) -> ReadEnd
     let mut d = c;
     let mut left = n;
     while 0 < left {
-        let r = xdr::read_opaque(s, d, 1, 128);
+        let r = xdr::read_opaque(s, d, 1, LONGEST_FILEHANDLE);
         let ReadPart::Value(_, e) = r else {
             return ReadEnd::Refused(xdr::why_part(r));
         };

@@ -1,5 +1,8 @@
 // What a data server begins with: device id, efficiency, stateid and the number of filehandles.
+use base::DEVICE_ID_SIZE;
 use base::Fault;
+use base::MOST_FILEHANDLES;
+use base::STATEID_SIZE;
 use xdr::Cursor;
 use xdr::ReadPart;
 use xdr::ReadU32;
@@ -25,7 +28,7 @@ pub enum ReadHead {
 pub(crate) fn read_head(s: &[u8], c: Cursor) -> ReadHead
     ensures { λ r. ⌜ resOfHead r ≡ headAt (now (s .entry)) (c .at) ⌝ }
 {
-    let d = xdr::read_bytes(s, c, 16);
+    let d = xdr::read_bytes(s, c, DEVICE_ID_SIZE);
     let ReadPart::Value(device, c1) = d else {
         return ReadHead::Refused(xdr::why_part(d));
     };
@@ -33,11 +36,11 @@ pub(crate) fn read_head(s: &[u8], c: Cursor) -> ReadHead
     let ReadU32::Value(efficiency, c2) = e else {
         return ReadHead::Refused(xdr::why_u32(e));
     };
-    let t = xdr::read_bytes(s, c2, 16);
+    let t = xdr::read_bytes(s, c2, STATEID_SIZE);
     let ReadPart::Value(stateid, c3) = t else {
         return ReadHead::Refused(xdr::why_part(t));
     };
-    let n = xdr::read_count(s, c3, 1, 8);
+    let n = xdr::read_count(s, c3, 1, MOST_FILEHANDLES);
     let ReadU32::Value(handles, c4) = n else {
         return ReadHead::Refused(xdr::why_u32(n));
     };

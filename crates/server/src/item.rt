@@ -4,6 +4,7 @@ use crate::head::ReadHead;
 use crate::head::read_head;
 use crate::head::why_head;
 use base::Fault;
+use base::LONGEST_NAME;
 use xdr::Cursor;
 use xdr::Part;
 use xdr::ReadEnd;
@@ -41,11 +42,11 @@ pub fn read_server(s: &[u8], c: Cursor) -> ReadServer
     let ReadEnd::Value(c2) = n else {
         return ReadServer::Refused(xdr::why_end(n));
     };
-    let u = xdr::read_opaque(s, c2, 0, 64);
+    let u = xdr::read_opaque(s, c2, 0, LONGEST_NAME);
     let ReadPart::Value(user, c3) = u else {
         return ReadServer::Refused(xdr::why_part(u));
     };
-    let g = xdr::read_opaque(s, c3, 0, 64);
+    let g = xdr::read_opaque(s, c3, 0, LONGEST_NAME);
     let ReadPart::Value(group, c4) = g else {
         return ReadServer::Refused(xdr::why_part(g));
     };

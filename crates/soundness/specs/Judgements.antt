@@ -16,7 +16,7 @@ use Rattle.reference.specs.Sound.{sound}
 
 -- of each slot whether a segment names it; of an unsound table none
 unfoldable pub namedJudged : Table → List ℕ → List Bool
-namedJudged t store = pick (sound t store) (namedSlots t) (replicate 8 false)
+namedJudged t store = pick (sound t store) (namedSlots t) (replicate slotCount false)
 
 -- what is not read is refused with 1, as no bytes at all are
 abbrev pub notRead : Answer Layout

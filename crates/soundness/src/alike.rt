@@ -1,8 +1,11 @@
 // Whether no two named slots hold the same body. `named` says of each slot whether a segment names it.
+use base::SLOT_COUNT;
+use base::SLOT_PLACES;
 use base::SlotNumber;
 ghost use mathlib.Core.Path.{_≡_};
 ghost use mathlib.Core.Bool.{_&&_};
 ghost use Prim.Native.Nat.{_+_, _-_, _<_};
+ghost use Rattle.base.specs.Limits.{slotCount};
 ghost use Rattle.segments.specs.declared.Table.{Table};
 ghost use Rattle.segments.specs.Segments.{isNamed};
 ghost use Rattle.lookup.specs.Lookup.{namedSlots};
@@ -11,12 +14,12 @@ ghost use Rattle.reference.specs.Model.{inSlots};
 ghost use Rattle.reference.specs.Sound.{noTwoAlike, slotsFrom, slotsIn};
 
 // Whether a slot from this one on holds the body.
-fn is_held_from(named: [bool; 8], store: &[u8], from: SlotNumber, body: &[u8]) -> bool
+fn is_held_from(named: [bool; SLOT_PLACES], store: &[u8], from: SlotNumber, body: &[u8]) -> bool
     ensures { λ r. ⌜ ((t : Table) → named ≡ namedSlots t
-        → r ≡ inSlots (now (body .entry)) (slotsFrom (isNamed t) (now (store .entry)) (8 - from .0) (from .0))) ⌝ }
+        → r ≡ inSlots (now (body .entry)) (slotsFrom (isNamed t) (now (store .entry)) (slotCount - from .0) (from .0))) ⌝ }
 {
     let mut j = from.0;
-    while j < 8 {
+    while j < SLOT_COUNT {
         let k = j as usize;
         if store::holds_body(named[k], store, SlotNumber(j), body) {
             return true;
@@ -27,12 +30,12 @@ fn is_held_from(named: [bool; 8], store: &[u8], from: SlotNumber, body: &[u8]) -
 }
 
 // Whether a later slot holds the body of this one.
-fn is_held_again(named: [bool; 8], store: &[u8], i: SlotNumber) -> bool
-    requires { ⌜ i .0 < 8 ⌝ }
+fn is_held_again(named: [bool; SLOT_PLACES], store: &[u8], i: SlotNumber) -> bool
+    requires { ⌜ i .0 < slotCount ⌝ }
     ensures { λ r. ⌜ ((t : Table) → named ≡ namedSlots t
         → r ≡ (isNamed t (i .0)
         && inSlots (bodyIn (slotAt (now (store .entry)) (i .0)))
-        (slotsFrom (isNamed t) (now (store .entry)) (8 - (i .0 + 1)) (i .0 + 1)))) ⌝ }
+        (slotsFrom (isNamed t) (now (store .entry)) (slotCount - (i .0 + 1)) (i .0 + 1)))) ⌝ }
 {
     let k = i.0 as usize;
     if !named[k] {
@@ -44,11 +47,11 @@ fn is_held_again(named: [bool; 8], store: &[u8], i: SlotNumber) -> bool
     is_held_from(named, store, SlotNumber(next), body)
 }
 
-pub(crate) fn no_two_alike(named: [bool; 8], store: &[u8]) -> bool
+pub(crate) fn no_two_alike(named: [bool; SLOT_PLACES], store: &[u8]) -> bool
     ensures { λ r. ⌜ ((t : Table) → named ≡ namedSlots t → r ≡ noTwoAlike (slotsIn t (now (store .entry)))) ⌝ }
 {
     let mut i: u32 = 0;
-    while i < 8 {
+    while i < SLOT_COUNT {
         if is_held_again(named, store, SlotNumber(i)) {
             return false;
         }

@@ -1,4 +1,6 @@
 // Whether a table and a body store, whatever they are, are sound.
+use base::SLOT_PLACES;
+use base::STORE_SIZE;
 use base::SlotNumber;
 use segments::Table;
 ghost use mathlib.Core.Path.{_≡_};
@@ -14,7 +16,7 @@ pub use slots::Judged;
 
 // The verdict, and which slots segments name; of an unsound table none.
 pub struct Soundness {
-    pub named: [bool; 8],
+    pub named: [bool; SLOT_PLACES],
     pub sound: bool,
 }
 
@@ -26,7 +28,7 @@ pub fn judge_and_read(t: Table, store: &[u8], slot: SlotNumber) -> Judged
         × (r .read .starts ≡ startsIn (layoutJudged t (now (store .entry)) (slot .0)))
         × (r .named ≡ namedJudged t (now (store .entry))) ⌝ }
 {
-    if store.len() != 32768 {
+    if store.len() != STORE_SIZE {
         return slots::unsound();
     }
     if !lists::lists_sound(t) {

@@ -1,4 +1,6 @@
 // Whether the segments of one iomode are sound: in order, apart, each under a slot, and the other places blank.
+use base::MOST_SEGMENTS;
+use base::SLOT_COUNT;
 use segments::Right;
 use segments::Segment;
 use segments::Segments;
@@ -12,8 +14,8 @@ fn has_slot(r: Right) -> bool
 {
     match r {
         Right::None => false,
-        Right::Granted(s) => s.0 < 8,
-        Right::Recalled(s) => s.0 < 8,
+        Right::Granted(s) => s.0 < SLOT_COUNT,
+        Right::Recalled(s) => s.0 < SLOT_COUNT,
     }
 }
 
@@ -60,7 +62,7 @@ fn is_blank(s: Segment) -> bool
 fn segments_sound(g: Segments) -> bool
     ensures { λ r. ⌜ r ≡ segmentsSound g ⌝ }
 {
-    if 32 < g.count {
+    if MOST_SEGMENTS < g.count {
         return false;
     }
     let mut k: usize = 0;
@@ -78,7 +80,7 @@ fn segments_sound(g: Segments) -> bool
         }
     }
     let mut blank = true;
-    while k < 32 {
+    while k < MOST_SEGMENTS {
         let s = g.items[k];
         blank = blank & is_blank(s);
         k += 1;

@@ -1,5 +1,10 @@
 // Whether the slots are sound: a named one holds an accepted body, laid out as said; any other is zero.
 use base::Fault;
+use base::LONGEST_BODY;
+use base::MOST_STARTS;
+use base::SLOT_COUNT;
+use base::SLOT_HEAD_SIZE;
+use base::SLOT_PLACES;
 use base::SlotNumber;
 use layout::LayoutAnswer;
 use layout::LayoutRead;
@@ -8,6 +13,7 @@ ghost use mathlib.Core.Bool.{true, false};
 ghost use mathlib.Core.List.{List};
 ghost use Prim.Native.Nat.{ℕ};
 ghost use lib.ListN.{replicate};
+ghost use Rattle.base.specs.Limits.{mostStarts, slotCount};
 ghost use Rattle.layout.specs.Answers.{answerOfLayout, startsIn};
 ghost use Rattle.layout.specs.Layouts.{layoutBody};
 ghost use Rattle.segments.specs.declared.Table.{Table};
@@ -21,23 +27,23 @@ ghost use Rattle.soundness.specs.Judgements.{layoutNamed, notRead};
 // segment names it; of an unsound table none.
 pub struct Judged {
     pub read: LayoutRead,
-    pub named: [bool; 8],
+    pub named: [bool; SLOT_PLACES],
     pub sound: bool,
 }
 
 pub(crate) fn unsound() -> Judged
     ensures { λ r. ⌜ (r .sound ≡ false)
         × (answerOfLayout (r .read .answer) (r .read .starts) ≡ notRead)
-        × (r .read .starts ≡ replicate 128 0)
-        × (r .named ≡ replicate 8 false) ⌝ }
+        × (r .read .starts ≡ replicate mostStarts 0)
+        × (r .named ≡ replicate slotCount false) ⌝ }
 {
     let read = LayoutRead {
         answer: LayoutAnswer::Refused(Fault::BytesRunOut),
-        starts: [0u16; 128],
+        starts: [0u16; MOST_STARTS],
     };
     Judged {
         read,
-        named: [false; 8],
+        named: [false; SLOT_PLACES],
         sound: false,
     }
 }
@@ -56,7 +62,7 @@ fn is_filled(slot: &[u8], answer: LayoutAnswer) -> bool
     ensures { λ r. ⌜ ((starts : List ℕ) → answerOfLayout answer starts ≡ layoutBody (bodyIn (now (slot .entry))) → r ≡ slotSound true (now (slot .entry))) ⌝ }
 {
     let n = store::slot_length(slot) as usize;
-    if 4090 < n {
+    if LONGEST_BODY < n {
         return false;
     }
     if store::slot_kind(slot) != 4 {
@@ -65,22 +71,22 @@ fn is_filled(slot: &[u8], answer: LayoutAnswer) -> bool
     if !is_accepted(answer) {
         return false;
     }
-    numbers::all_zero(slot, 6 + n)
+    numbers::all_zero(slot, SLOT_HEAD_SIZE + n)
 }
 
 // `named` says of each slot whether a segment names it.
-pub(crate) fn judge_slots(named: [bool; 8], store: &[u8], wanted: SlotNumber) -> Judged
+pub(crate) fn judge_slots(named: [bool; SLOT_PLACES], store: &[u8], wanted: SlotNumber) -> Judged
     ensures { λ r. ⌜ ((t : Table) → named ≡ namedSlots t
-        → (r .sound ≡ slotsSound t (now (store .entry)) 8 0)
+        → (r .sound ≡ slotsSound t (now (store .entry)) slotCount 0)
         × (r .sound ≡ true
-        → (answerOfLayout (r .read .answer) (r .read .starts) ≡ layoutNamed t (now (store .entry)) (wanted .0) 8)
-        × (r .read .starts ≡ startsIn (layoutNamed t (now (store .entry)) (wanted .0) 8))
+        → (answerOfLayout (r .read .answer) (r .read .starts) ≡ layoutNamed t (now (store .entry)) (wanted .0) slotCount)
+        × (r .read .starts ≡ startsIn (layoutNamed t (now (store .entry)) (wanted .0) slotCount))
         × (r .named ≡ namedSlots t))) ⌝ }
 {
     let none = unsound();
     let mut read = none.read;
     let mut i: u32 = 0;
-    while i < 8 {
+    while i < SLOT_COUNT {
         let k = i as usize;
         let slot = store::slot_bytes(store, SlotNumber(i));
         if named[k] {

@@ -3,6 +3,7 @@ use Prim.Native.Nat.{ℕ, _+_, _-_, _*_}
 use mathlib.Core.List.{List, [], _∷_, _++_}
 use lib.ListN.{length, replicate}
 use lib.Dec.{leb}
+use Rattle.base.specs.Limits.{longestBody, slotHeadSize, slotSize}
 use Rattle.base.specs.Answer.{pick}
 use Rattle.buffers.specs.Buffers.{stored}
 use Rattle.numbers.specs.Numbers.{bytesFrom, leAt, leBytes}
@@ -17,8 +18,8 @@ pub data Slot : Type 0 where
 
 -- "length (4 bytes, little-endian), kind (2 bytes, little-endian, value 4), body, zeros to the end. A slot that no segment names is all zeros."
 unfoldable pub slotBytes : Slot → List ℕ
-slotBytes empty = replicate 4096 0
-slotBytes (holds b) = leBytes 4 (length b) ++ (leBytes 2 4 ++ (b ++ replicate (4090 - length b) 0))
+slotBytes empty = replicate slotSize 0
+slotBytes (holds b) = leBytes 4 (length b) ++ (leBytes 2 4 ++ (b ++ replicate (longestBody - length b) 0))
 
 -- "Its shelf is its slots, laid out as above."
 unfoldable pub storeOf : List Slot → List ℕ
@@ -27,11 +28,11 @@ storeOf (s ∷ l) = slotBytes s ++ storeOf l
 
 -- a store in which slot i is laid out anew; as it was where there is no slot i, or the body is too long for a slot
 unfoldable pub slotSet : List ℕ → ℕ → Slot → List ℕ
-slotSet store i s = pick (leb (length (slotBytes s)) 4096) (stored store (i * 4096) (slotBytes s)) store
+slotSet store i s = pick (leb (length (slotBytes s)) slotSize) (stored store (i * slotSize) (slotBytes s)) store
 
 -- the bytes of slot i, and what they say: the length stands at 0, the kind at 4, the body at 6
 abbrev pub slotAt : List ℕ → ℕ → List ℕ
-slotAt store i = bytesFrom 4096 store (i * 4096)
+slotAt store i = bytesFrom slotSize store (i * slotSize)
 
 unfoldable pub lengthIn : List ℕ → ℕ
 lengthIn slot = leAt 4 slot 0
@@ -40,4 +41,4 @@ unfoldable pub kindIn : List ℕ → ℕ
 kindIn slot = leAt 2 slot 4
 
 unfoldable pub bodyIn : List ℕ → Body
-bodyIn slot = bytesFrom (lengthIn slot) slot 6
+bodyIn slot = bytesFrom (lengthIn slot) slot slotHeadSize

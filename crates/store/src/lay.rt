@@ -1,5 +1,8 @@
 // A slot laid out anew. Where the store has no such slot, or the body is too long for one, the store stays as it was.
 use crate::start;
+use base::LONGEST_BODY;
+use base::SLOT_HEAD_SIZE;
+use base::SLOT_SIZE;
 use base::SlotNumber;
 ghost use mathlib.Core.Path.{_≡_};
 ghost use Rattle.store.specs.Store.{empty, holds, slotSet};
@@ -9,23 +12,23 @@ pub fn lay_body(store: &mut [u8], i: SlotNumber, body: &[u8])
 {
     let at = start(i);
     let n = body.len();
-    if 4090 < n {
+    if LONGEST_BODY < n {
         return;
     }
     if store.len() < at {
         return;
     }
-    if store.len() - at < 4096 {
+    if store.len() - at < SLOT_SIZE {
         return;
     }
     buffers::put_le4(store, at, n as u32);
     buffers::put_le2(store, at + 4, 4);
-    buffers::put_bytes(store, at + 6, body);
-    buffers::put_zeros(store, at + 6 + n, 4090 - n);
+    buffers::put_bytes(store, at + SLOT_HEAD_SIZE, body);
+    buffers::put_zeros(store, at + SLOT_HEAD_SIZE + n, LONGEST_BODY - n);
 }
 
 pub fn clear_slot(store: &mut [u8], i: SlotNumber)
     ensures { λ r. ⌜ now (store .exit) ≡ slotSet (now (store .entry)) (i .0) empty ⌝ }
 {
-    buffers::put_zeros(store, start(i), 4096);
+    buffers::put_zeros(store, start(i), SLOT_SIZE);
 }

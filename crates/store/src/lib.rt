@@ -1,6 +1,8 @@
 // The body store, eight slots in 32,768 borrowed bytes: what a slot holds, a body laid into it, and a slot cleared.
+use base::SLOT_SIZE;
 use base::SlotNumber;
 ghost use mathlib.Core.Path.{_≡_};
+ghost use Rattle.base.specs.Limits.{slotSize};
 ghost use Prim.Native.Nat.{_*_};
 
 mod lay;
@@ -16,7 +18,7 @@ pub use slot::slot_length;
 
 // Where a slot begins.
 fn start(i: SlotNumber) -> usize
-    ensures { λ r. ⌜ r ≡ i .0 * 4096 ⌝ }
+    ensures { λ r. ⌜ r ≡ i .0 * slotSize ⌝ }
 {
-    i.0 as usize * 4096
+    i.0 as usize * SLOT_SIZE
 }

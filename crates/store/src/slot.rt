@@ -1,5 +1,7 @@
 // What stands in a slot: its bytes, and the length, kind and body that they say.
 use crate::start;
+use base::SLOT_HEAD_SIZE;
+use base::SLOT_SIZE;
 use base::SlotNumber;
 ghost use mathlib.Core.Path.{_≡_};
 ghost use mathlib.Core.Bool.{_&&_};
@@ -24,7 +26,7 @@ fn part(s: &[u8], at: usize, n: usize) -> &[u8]
 pub fn slot_bytes(store: &[u8], i: SlotNumber) -> &[u8]
     ensures { λ r. ⌜ now r ≡ slotAt (now (store .entry)) (i .0) ⌝ }
 {
-    part(store, start(i), 4096)
+    part(store, start(i), SLOT_SIZE)
 }
 
 pub fn slot_length(slot: &[u8]) -> u32
@@ -43,7 +45,7 @@ pub fn slot_body(slot: &[u8]) -> &[u8]
     ensures { λ r. ⌜ now r ≡ bodyIn (now (slot .entry)) ⌝ }
 {
     let n = slot_length(slot) as usize;
-    part(slot, 6, n)
+    part(slot, SLOT_HEAD_SIZE, n)
 }
 
 // Whether a slot holds a body: one that no segment names holds none.

@@ -5,6 +5,7 @@ use mathlib.Core.Bool.{Bool, true, false}
 use mathlib.Core.List.{List, [], _∷_}
 use lib.ListN.{length, getD, set}
 use lib.Dec.{ltb}
+use Rattle.base.specs.Limits.{mostSegments}
 use Rattle.base.specs.Answer.{pick}
 use Rattle.base.specs.Lists.{padded}
 use Rattle.segments.specs.declared.Right.the-variants.{Granted}
@@ -48,14 +49,14 @@ turnPart c lo hi n m i s = pick (ltb i n) (before lo s) (pick (ltb i (n + m)) (m
 -- the draft has the list in its places and blanks behind it, or says that the list has no room; then its places do not matter, for the edit
 -- is refused
 pub record Holds (d : Draft) (l : List Segment) : Type 0 where
-  pub small : d .count ≤ 32
-  pub places : d .full ≡ false → d .items ≡ padded 32 blank l
+  pub small : d .count ≤ mostSegments
+  pub places : d .full ≡ false → d .items ≡ padded mostSegments blank l
   pub number : d .full ≡ false → d .count ≡ length l
-  pub over : d .full ≡ true → 32 < length l
+  pub over : d .full ≡ true → mostSegments < length l
 
 -- what is written pushes ps on a draft of which these are the count, the flag and the segment in its newest place
 pub record Goes (count : ℕ) (full : Bool) (a : Segment) (ps : List Segment) (p : Place) : Type 0 where
-  pub there : p .at < 32
+  pub there : p .at < mostSegments
   pub holds : (items : List Segment) (e : Segment) (l : List Segment) → a ≡ getD items (count - 1) e
       → Holds (record { items = items; count = count; full = full }) l
       → Holds (record { items = set items (p .at) (p .segment); count = p .count; full = p .full }) (pushAll l ps)

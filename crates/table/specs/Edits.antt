@@ -4,6 +4,7 @@ use mathlib.Core.Bool.{Bool, true, false, _&&_}
 use mathlib.Core.List.{List, [], _∷_, _++_}
 use lib.ListN.{length}
 use lib.Dec.{leb, ltb, eqb}
+use Rattle.base.specs.Limits.{mostSegments}
 use Rattle.base.specs.Answer.{Answer, accepted, refused, pick}
 use Rattle.base.specs.declared.iomode.Iomode.{Iomode}
 use Rattle.segments.specs.declared.Right.{Right}
@@ -83,7 +84,7 @@ edited c lo hi l = pushAll [] (parts (before lo) l ++ (middle c lo hi l ++ parts
 -- "more than 32 segments in an iomode": nothing is changed
 unfoldable pub editedIn : Change → ℕ → ℕ → Segments → Edited
 editedIn c lo hi g =
-    pick (leb (length (edited c lo hi (listOf g))) 32)
+    pick (leb (length (edited c lo hi (listOf g))) mostSegments)
     (record { segments = inPlaces (edited c lo hi (listOf g)); fits = true })
     (record { segments = g; fits = false })
 

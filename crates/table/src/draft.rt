@@ -2,17 +2,19 @@
 use crate::change::Change;
 use crate::place;
 use crate::turn;
+use base::MOST_SEGMENTS;
 use segments::BLANK;
 use segments::Segment;
 ghost use mathlib.Core.List.{[]};
 ghost use Prim.Native.Nat.{_≤_};
 ghost use lib.ListN.{take};
+ghost use Rattle.base.specs.Limits.{mostSegments};
 ghost use Rattle.table.specs.Edits.{edited};
 ghost use Rattle.table.specs.Drafts.{Holds};
 
 // Once a segment has found no place, the draft is full and stays so.
 pub(crate) struct Draft {
-    pub items: [Segment; 32],
+    pub items: [Segment; MOST_SEGMENTS],
     pub count: usize,
     pub full: bool,
 }
@@ -21,15 +23,21 @@ fn empty_draft() -> Draft
     ensures { λ r. ⌜ Holds r [] ⌝ }
 {
     Draft {
-        items: [BLANK; 32],
+        items: [BLANK; MOST_SEGMENTS],
         count: 0,
         full: false,
     }
 }
 
 // The draft of an edit of n segments. Each turn writes one place: a draft that went through a call in each turn would be copied there.
-pub(crate) fn draft_of(items: [Segment; 32], n: usize, c: Change, first: u64, last: u64) -> Draft
-    requires { ⌜ n ≤ 32 ⌝ }
+pub(crate) fn draft_of(
+    items: [Segment; MOST_SEGMENTS],
+    n: usize,
+    c: Change,
+    first: u64,
+    last: u64,
+) -> Draft
+    requires { ⌜ n ≤ mostSegments ⌝ }
     ensures { λ r. ⌜ Holds r (edited c first last (take n items)) ⌝ }
 {
     let m = turn::middle_turns(c, n);

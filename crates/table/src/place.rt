@@ -1,10 +1,12 @@
 // Where a part goes in a draft.
 use crate::part::Part;
+use base::MOST_SEGMENTS;
 use segments::Segment;
 ghost use mathlib.Core.Path.{_≡_};
 ghost use mathlib.Core.Bool.{false};
 ghost use mathlib.Core.List.{[], _∷_};
 ghost use Prim.Native.Nat.{_-_, _≤_};
+ghost use Rattle.base.specs.Limits.{mostSegments};
 ghost use Rattle.table.specs.Edits.{touching};
 ghost use Rattle.table.specs.Drafts.{Goes, piece};
 
@@ -43,7 +45,7 @@ pub(crate) fn newest(count: usize) -> usize
 
 // The place for s, in a draft that is not full and ends with a.
 fn place_behind(count: usize, a: Segment, s: Segment) -> Place
-    requires { ⌜ (count ≡ 0 → ⊥) × (count ≤ 32) ⌝ }
+    requires { ⌜ (count ≡ 0 → ⊥) × (count ≤ mostSegments) ⌝ }
     ensures { λ r. ⌜ Goes count false a (s ∷ []) r ⌝ }
 {
     if touches(a, s) {
@@ -60,7 +62,7 @@ fn place_behind(count: usize, a: Segment, s: Segment) -> Place
             full: false,
         };
     }
-    if count < 32 {
+    if count < MOST_SEGMENTS {
         return Place {
             at: count,
             segment: s,
@@ -78,7 +80,7 @@ fn place_behind(count: usize, a: Segment, s: Segment) -> Place
 
 // The segment a stands in the newest place. In a draft that is full any place may be written.
 pub(crate) fn place_for(count: usize, full: bool, a: Segment, p: Part) -> Place
-    requires { ⌜ count ≤ 32 ⌝ }
+    requires { ⌜ count ≤ mostSegments ⌝ }
     ensures { λ r. ⌜ Goes count full a (piece p) r ⌝ }
 {
     let Part::Some(s) = p else {

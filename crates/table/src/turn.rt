@@ -6,11 +6,12 @@ use segments::Right;
 use segments::Segment;
 ghost use mathlib.Core.Path.{_≡_};
 ghost use Prim.Native.Nat.{_+_, _<_, _≤_};
+ghost use Rattle.base.specs.Limits.{mostSegments};
 ghost use Rattle.table.specs.Drafts.{middlePart, middleTurns, piece, turnPart, turnPlace};
 
 pub(crate) fn middle_turns(c: Change, n: usize) -> usize
-    requires { ⌜ n ≤ 32 ⌝ }
-    ensures { λ r. ⌜ (r ≡ middleTurns c n) × (r ≤ 32) ⌝ }
+    requires { ⌜ n ≤ mostSegments ⌝ }
+    ensures { λ r. ⌜ (r ≡ middleTurns c n) × (r ≤ mostSegments) ⌝ }
 {
     match c {
         Change::Grant(_) => 1,
@@ -21,8 +22,8 @@ pub(crate) fn middle_turns(c: Change, n: usize) -> usize
 
 // The place of the segment that turn i is about.
 pub(crate) fn turn_place(i: usize, n: usize, m: usize) -> usize
-    requires { ⌜ (n ≤ 32) × (m ≤ 32) × (i < n + m + n) ⌝ }
-    ensures { λ r. ⌜ (r ≡ turnPlace n m i) × (r < 32) ⌝ }
+    requires { ⌜ (n ≤ mostSegments) × (m ≤ mostSegments) × (i < n + m + n) ⌝ }
+    ensures { λ r. ⌜ (r ≡ turnPlace n m i) × (r < mostSegments) ⌝ }
 {
     if i < n {
         return i;
@@ -57,7 +58,7 @@ pub(crate) fn turn_part(
     first: u64,
     last: u64,
 ) -> Part
-    requires { ⌜ (n ≤ 32) × (m ≤ 32) ⌝ }
+    requires { ⌜ (n ≤ mostSegments) × (m ≤ mostSegments) ⌝ }
     ensures { λ r. ⌜ piece r ≡ turnPart c first last n m i s ⌝ }
 {
     if i < n {

@@ -1,4 +1,5 @@
 // The body store: for each slot the length that it says, and a checksum of its bytes.
+use base::SLOT_COUNT;
 use base::SlotNumber;
 use base::wide8;
 use print::say;
@@ -26,7 +27,7 @@ fn say_slot(store: &[u8], i: u32) {
 pub fn say_store(store: &[u8]) {
     say(b"shelf");
     let mut i: u32 = 0;
-    while i < 8 {
+    while i < SLOT_COUNT {
         say_slot(store, i);
         i += 1;
     }

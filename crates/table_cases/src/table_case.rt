@@ -1,4 +1,5 @@
 // The table.
+use base::MOST_SEGMENTS;
 use print::say;
 use print::say_between;
 use print::say_field;
@@ -25,7 +26,7 @@ fn say_segment(s: Segment) {
 
 fn say_segments(g: Segments) {
     let mut i: usize = 0;
-    while i < 32 {
+    while i < MOST_SEGMENTS {
         if g.count <= i {
             return;
         }

@@ -4,6 +4,7 @@ use mathlib.Core.Bool.{Bool, _&&_}
 use mathlib.Core.List.{List}
 use lib.Dec.{leb, eqb}
 use lib.ListN.{length}
+use Rattle.base.specs.Limits.{errorSize, mostErrorsInAll, mostReports, reportHeadSize}
 use Rattle.numbers.specs.Numbers.{leAt}
 
 -- bind: the layout's length in the last four of the first 32 bytes, and a layout body of that length behind them
@@ -12,11 +13,11 @@ isBind s = leb (32 + leAt 4 s 28) (length s)
 
 -- report-write: where the list length stands, behind "that many reports but at most 8", each of 36 bytes
 unfoldable pub listAt : ℕ → ℕ
-listAt count = 8 + 36 * min count 8
+listAt count = 8 + reportHeadSize * min count mostReports
 
 -- the list length that stands at a place is at most 128, and that many errors of 24 bytes end the payload
 unfoldable pub listEnds : List ℕ → ℕ → Bool
-listEnds s at = leb (leAt 4 s at) 128 && eqb (length s) (at + 4 + 24 * leAt 4 s at)
+listEnds s at = leb (leAt 4 s at) mostErrorsInAll && eqb (length s) (at + 4 + errorSize * leAt 4 s at)
 
 -- report-write: output length, report count, reports, list length, errors; the output has at most 4,096 bytes
 unfoldable pub isReportWrite : List ℕ → Bool

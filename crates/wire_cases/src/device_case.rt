@@ -1,4 +1,6 @@
 // A device body.
+use base::ADDRESS_PLACES;
+use base::VERSION_PLACES;
 use device::DeviceAnswer;
 use device_version::Version;
 use netaddr::Address;
@@ -35,9 +37,9 @@ fn say_address(a: Address) {
     say_fields(b":#+#", &values);
 }
 
-fn say_addresses(addresses: [Address; 8], count: u32) {
+fn say_addresses(addresses: [Address; ADDRESS_PLACES], count: u32) {
     let mut i: usize = 0;
-    while i < 8 {
+    while i < ADDRESS_PLACES {
         if count as usize <= i {
             return;
         }
@@ -58,9 +60,9 @@ fn say_version(v: Version) {
     say_fields(b"#.#:#:#:#", &values);
 }
 
-fn say_versions(versions: [Version; 8], count: u32) {
+fn say_versions(versions: [Version; VERSION_PLACES], count: u32) {
     let mut i: usize = 0;
-    while i < 8 {
+    while i < VERSION_PLACES {
         if count as usize <= i {
             return;
         }

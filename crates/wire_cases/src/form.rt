@@ -1,4 +1,7 @@
 // The forms of the payloads that have more than a body.
+use base::ERROR_SIZE;
+use base::MOST_REPORTS;
+use base::REPORT_HEAD_SIZE;
 ghost use Prim.Native.Nat.{_≤_};
 ghost use mathlib.Core.Path.{_≡_};
 ghost use Rattle.wire_cases.specs.Forms.{isBind, isReportWrite, listAt};
@@ -19,10 +22,10 @@ pub fn is_bind(payload: &[u8]) -> bool
 pub(crate) fn list_at(count: u32) -> usize
     ensures { λ r. ⌜ (r ≡ listAt count) × (r ≤ 296) ⌝ }
 {
-    if 8 < count {
+    if MOST_REPORTS < count {
         return 296;
     }
-    8 + 36 * (count as usize)
+    8 + REPORT_HEAD_SIZE * (count as usize)
 }
 
 pub fn is_report_write(payload: &[u8]) -> bool
@@ -36,5 +39,5 @@ pub fn is_report_write(payload: &[u8]) -> bool
     if MOST_ERRORS < errors {
         return false;
     }
-    payload.len() == at + 4 + 24 * (errors as usize)
+    payload.len() == at + 4 + ERROR_SIZE * (errors as usize)
 }

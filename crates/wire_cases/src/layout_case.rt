@@ -1,4 +1,5 @@
 // A layout body.
+use base::MOST_STARTS;
 use base::wide16;
 use layout::LayoutAnswer;
 use layout::Summary;
@@ -8,17 +9,17 @@ use print::say_fault;
 use print::say_fields;
 use print::say_number;
 
-fn say_starts(starts: [u16; 128]) {
+fn say_starts(starts: [u16; MOST_STARTS]) {
     say(b" starts=");
     let mut i: usize = 0;
-    while i < 128 {
+    while i < MOST_STARTS {
         say_between(b",", i);
         say_number(wide16(starts[i]) as u64);
         i += 1;
     }
 }
 
-pub(crate) fn say_summary(s: Summary, starts: [u16; 128]) {
+pub(crate) fn say_summary(s: Summary, starts: [u16; MOST_STARTS]) {
     let values = [
         s.unit,
         s.mirrors as u64,

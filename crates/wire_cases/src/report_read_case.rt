@@ -1,4 +1,5 @@
 // Error reports that are read.
+use base::REPORT_PLACES;
 use print::say;
 use print::say_between;
 use print::say_device_id;
@@ -45,9 +46,14 @@ fn say_report(payload: &[u8], head: ReportHead, first: usize) {
     say_errors(payload, first, head.errors);
 }
 
-fn say_reports(payload: &[u8], heads: [ReportHead; 8], errors_at: [usize; 8], count: u32) {
+fn say_reports(
+    payload: &[u8],
+    heads: [ReportHead; REPORT_PLACES],
+    errors_at: [usize; REPORT_PLACES],
+    count: u32,
+) {
     let mut i: usize = 0;
-    while i < 8 {
+    while i < REPORT_PLACES {
         if count as usize <= i {
             return;
         }

@@ -1,6 +1,11 @@
 // Error reports that are written. The payload has: output length, report count, reports, list length, errors.
 use crate::form::list_at;
 use crate::sixteen::sixteen_at;
+use base::DEVICE_ID_SIZE;
+use base::ERROR_LIST_SIZE;
+use base::ERROR_SIZE;
+use base::REPORT_HEAD_SIZE;
+use base::REPORT_PLACES;
 use print::say;
 use print::say_field;
 use print::say_hex;
@@ -19,13 +24,13 @@ fn head_of(r: &[u8]) -> ReportHead {
 }
 
 // The payload's reports; blank in the places past their count.
-fn heads_of(payload: &[u8], count: u32) -> [ReportHead; 8] {
+fn heads_of(payload: &[u8], count: u32) -> [ReportHead; REPORT_PLACES] {
     let blank = head_of(b"");
-    let mut heads = [blank; 8];
+    let mut heads = [blank; REPORT_PLACES];
     let mut i: usize = 0;
-    while i < 8 {
-        let at = 8 + 36 * i;
-        let end = at + 36;
+    while i < REPORT_PLACES {
+        let at = 8 + REPORT_HEAD_SIZE * i;
+        let end = at + REPORT_HEAD_SIZE;
         if count as usize <= i {
             return heads;
         }
@@ -41,12 +46,12 @@ fn heads_of(payload: &[u8], count: u32) -> [ReportHead; 8] {
 // The errors in the form in which the core takes them: wire records.
 fn put_records(records: &mut [u8], errors: &[u8]) {
     let mut at: usize = 0;
-    while 24 <= errors.len() - at {
-        let middle = at + 16;
+    while ERROR_SIZE <= errors.len() - at {
+        let middle = at + DEVICE_ID_SIZE;
         let status = numbers::le4(errors, middle);
         let operation = numbers::le4(errors, middle + 4);
         report_write::put_error(records, at, &errors[at..middle], status, operation);
-        at += 24;
+        at += ERROR_SIZE;
     }
 }
 
@@ -59,7 +64,13 @@ fn say_written(w: Written) {
 }
 
 // The answer and the whole output.
-fn say_output(count: u32, heads: [ReportHead; 8], errors: usize, records: &[u8], out: &mut [u8]) {
+fn say_output(
+    count: u32,
+    heads: [ReportHead; REPORT_PLACES],
+    errors: usize,
+    records: &[u8],
+    out: &mut [u8],
+) {
     let w = report_write::write_reports(count, heads, errors, records, out);
     say_written(w);
     say(b" output=");
@@ -83,7 +94,7 @@ pub fn say_report_write(payload: &[u8]) {
     if payload.len() < from {
         return;
     }
-    let mut records = [0u8; 3072];
+    let mut records = [0u8; ERROR_LIST_SIZE];
     put_records(&mut records, &payload[from..]);
     let errors = numbers::le4(payload, at) as usize;
     say_writing(payload, count, errors, &records);

@@ -3,6 +3,7 @@ use Prim.Native.Nat.{ℕ}
 use mathlib.Core.Bool.{Bool, true, false}
 use mathlib.Core.List.{map}
 use lib.ListN.{replicate}
+use Rattle.base.specs.Limits.{mostAddresses, mostVersions}
 use Rattle.base.specs.Answer.{Answer, accepted, refused}
 use Rattle.netaddr.specs.declared.address.Address.{Address}
 use Rattle.netaddr.specs.declared.netid.NetidClass.{NetidClass}
@@ -51,6 +52,6 @@ deviceResult (refused n) = record {
   refusal = n;
   «address_count» = 0;
   «version_count» = 0;
-  addresses = replicate 8 noAddress;
-  versions = replicate 8 noVersion;
+  addresses = replicate mostAddresses noAddress;
+  versions = replicate mostVersions noVersion;
 }

@@ -1,5 +1,6 @@
 -- Layout bodies and layout4s in plain numbers: 0 and the values, or the refusal's number and zeros.
 use lib.ListN.{replicate}
+use Rattle.base.specs.Limits.{mostStarts}
 use Rattle.base.specs.Answer.{Answer, accepted, refused}
 use Rattle.base.specs.Iomodes.{numberOfIomode}
 use Rattle.xdr.specs.declared.Part.{Part}
@@ -25,7 +26,7 @@ noSummary = record { unit = 0; mirrors = 0; servers = 0; flags = 0; hint = 0 }
 
 unfoldable pub layoutResult : Answer Layout → LayoutResult
 layoutResult (accepted l) = record { refusal = 0; summary = summaryRecord (l .summary); starts = l .starts }
-layoutResult (refused n) = record { refusal = n; summary = noSummary; starts = replicate 128 0 }
+layoutResult (refused n) = record { refusal = n; summary = noSummary; starts = replicate mostStarts 0 }
 
 unfoldable pub layout4Result : Answer Whole → Layout4Result
 layout4Result (accepted w) = record {
@@ -46,5 +47,5 @@ layout4Result (refused n) = record {
   last = 0;
   body = noPart;
   summary = noSummary;
-  starts = replicate 128 0;
+  starts = replicate mostStarts 0;
 }

@@ -2,6 +2,7 @@
 use Prim.Native.Nat.{ℕ}
 use mathlib.Core.List.{List}
 use lib.ListN.{length, replicate}
+use Rattle.base.specs.Limits.{mostReports}
 use Rattle.base.specs.Answer.{Answer, accepted, refused, given}
 use Rattle.xdr.specs.Res.{Res, ok, no}
 use Rattle.report.specs.Reports.{Report}
@@ -32,8 +33,8 @@ reportsResult (accepted a) = record { refusal = 0; count = a .count; heads = a .
 reportsResult (refused n) = record {
   refusal = n;
   count = 0;
-  heads = replicate 8 blankHead;
-  «errors_at» = replicate 8 0;
+  heads = replicate mostReports blankHead;
+  «errors_at» = replicate mostReports 0;
 }
 
 -- one error, whatever stands behind it

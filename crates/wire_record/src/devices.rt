@@ -1,6 +1,8 @@
 // What was read of a device body: its addresses, each with its netid's class as a number, and its version entries.
 use crate::layouts::PartRecord;
 use crate::layouts::part_record;
+use base::ADDRESS_PLACES;
+use base::VERSION_PLACES;
 use device::DeviceAnswer;
 use device::DeviceRead;
 use device_version::Version;
@@ -33,8 +35,8 @@ pub struct DeviceResult {
     pub refusal: u32,
     pub address_count: u32,
     pub version_count: u32,
-    pub addresses: [AddressRecord; 8],
-    pub versions: [VersionRecord; 8],
+    pub addresses: [AddressRecord; ADDRESS_PLACES],
+    pub versions: [VersionRecord; VERSION_PLACES],
 }
 
 const NO_ADDRESS: AddressRecord = AddressRecord {
@@ -97,12 +99,12 @@ pub(crate) fn version_record(v: Version) -> VersionRecord
     }
 }
 
-fn address_records(items: [Address; 8]) -> [AddressRecord; 8]
+fn address_records(items: [Address; ADDRESS_PLACES]) -> [AddressRecord; ADDRESS_PLACES]
     ensures { λ r. ⌜ r ≡ map addressRecord items ⌝ }
 {
-    let mut made = [NO_ADDRESS; 8];
+    let mut made = [NO_ADDRESS; ADDRESS_PLACES];
     let mut i: usize = 0;
-    while i < 8 {
+    while i < ADDRESS_PLACES {
         let x = items[i];
         made[i] = address_record(x);
         i += 1;
@@ -110,12 +112,12 @@ fn address_records(items: [Address; 8]) -> [AddressRecord; 8]
     made
 }
 
-fn version_records(items: [Version; 8]) -> [VersionRecord; 8]
+fn version_records(items: [Version; VERSION_PLACES]) -> [VersionRecord; VERSION_PLACES]
     ensures { λ r. ⌜ r ≡ map versionRecord items ⌝ }
 {
-    let mut made = [NO_VERSION; 8];
+    let mut made = [NO_VERSION; VERSION_PLACES];
     let mut i: usize = 0;
-    while i < 8 {
+    while i < VERSION_PLACES {
         let x = items[i];
         made[i] = version_record(x);
         i += 1;
@@ -132,8 +134,8 @@ pub fn device_result(d: DeviceRead) -> DeviceResult
             refusal: base::fault_number(e),
             address_count: 0,
             version_count: 0,
-            addresses: [NO_ADDRESS; 8],
-            versions: [NO_VERSION; 8],
+            addresses: [NO_ADDRESS; ADDRESS_PLACES],
+            versions: [NO_VERSION; VERSION_PLACES],
         },
         DeviceAnswer::Counts(m, n) => {
             let places = d.addresses;

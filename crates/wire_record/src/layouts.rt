@@ -1,4 +1,5 @@
 // What was read of a layout body or of a whole layout4: the summary, the starts of the data servers, and the range.
+use base::MOST_STARTS;
 use layout::LayoutAnswer;
 use layout::LayoutRead;
 use layout::Summary;
@@ -30,7 +31,7 @@ pub struct SummaryRecord {
 pub struct LayoutResult {
     pub refusal: u32,
     pub summary: SummaryRecord,
-    pub starts: [u16; 128],
+    pub starts: [u16; MOST_STARTS],
 }
 
 #[repr(C)]
@@ -42,7 +43,7 @@ pub struct Layout4Result {
     pub last: u64,
     pub body: PartRecord,
     pub summary: SummaryRecord,
-    pub starts: [u16; 128],
+    pub starts: [u16; MOST_STARTS],
 }
 
 pub(crate) const NO_PART: PartRecord = PartRecord { start: 0, len: 0 };
@@ -84,7 +85,7 @@ pub fn layout_result(l: LayoutRead) -> LayoutResult
         LayoutAnswer::Refused(e) => LayoutResult {
             refusal: base::fault_number(e),
             summary: NO_SUMMARY,
-            starts: [0u16; 128],
+            starts: [0u16; MOST_STARTS],
         },
         LayoutAnswer::Value(s) => {
             let summary = summary_record(s);
@@ -111,7 +112,7 @@ pub fn layout4_result(l: Layout4Read) -> Layout4Result
             last: 0,
             body: NO_PART,
             summary: NO_SUMMARY,
-            starts: [0u16; 128],
+            starts: [0u16; MOST_STARTS],
         },
         Layout4Answer::Value(f, s) => {
             let iomode = f.iomode;

@@ -1,4 +1,6 @@
 // What was read of an `ff_layoutreturn4` body: how many error reports, their heads, and where their errors stand.
+use base::REPORT_PLACES;
+use base::STATEID_SIZE;
 use report::ReportAnswer;
 use report::ReportHead;
 use report::ReportsRead;
@@ -10,14 +12,14 @@ ghost use Rattle.wire_record.specs.Reports.{answerOfReports, reportsResu
 pub struct ReportsResult {
     pub refusal: u32,
     pub count: u32,
-    pub heads: [ReportHead; 8],
-    pub errors_at: [usize; 8],
+    pub heads: [ReportHead; REPORT_PLACES],
+    pub errors_at: [usize; REPORT_PLACES],
 }
 
 const NO_HEAD: ReportHead = ReportHead {
     offset: 0,
     length: 0,
-    stateid: [0u8; 16],
+    stateid: [0u8; STATEID_SIZE],
     errors: 0,
 };
 
@@ -31,8 +33,8 @@ pub fn reports_result(x: ReportsRead) -> ReportsResult
         ReportAnswer::Refused(e) => ReportsResult {
             refusal: base::fault_number(e),
             count: 0,
-            heads: [NO_HEAD; 8],
-            errors_at: [0usize; 8],
+            heads: [NO_HEAD; REPORT_PLACES],
+            errors_at: [0usize; REPORT_PLACES],
         },
         ReportAnswer::Count(n) => ReportsResult {
             refusal: 0,

@@ -11,9 +11,6 @@ use mathlib.Core.Path.{refl}
 use Rattle.report.proofs.body.reports_part.Statement.{statement}
 use Rattle.report.proofs.body.reports_part.Tie as tie
 
-cast-read-count : tie.Need-cast-read-count
-cast-read-count c = search needs
-
 read-count-requires : tie.Need-read-count-requires
 read-count-requires c κs = search needs
 
@@ -44,7 +41,6 @@ pub reports-part-spec : {M : Type 1} → statement M
 reports-part-spec =
     tie.close
     (tie.spec
-    cast-read-count
     read-count-requires
     enum-known-r
     enum-told
