@@ -1,6 +1,6 @@
 -- "Given a layout body, a mirror and stripe number, a device body, the device id it was fetched under and the set of spoken versions (bits 1,
 -- 2, 4, 8 for 3, 4.0, 4.1, 4.2). Check layout body, device body, 16, 8, 13, 14, 15."
-use Prim.Native.Nat.{ℕ, _+_, _*_, _%_}
+use Prim.Native.Nat.{ℕ, _+_}
 use mathlib.Core.List.{List, [], _∷_}
 use mathlib.Core.Bool.{Bool, _&&_, _||_, not}
 use lib.ListN.{getD, replicate, take}
@@ -32,7 +32,7 @@ valueOf (no n) = refused n
 -- "bits 1, 2, 4, 8 for 3, 4.0, 4.1, 4.2"; an accepted entry is one of these four
 unfoldable pub supports : ℕ → Version → Bool
 supports set v =
-    pick (eqb (v .version) 3) (eqb (set % 2) 1)
+    pick (eqb (v .version) 3) (bit 1 set)
     (pick (eqb (v .minor) 0) (bit 2 set) (pick (eqb (v .minor) 1) (bit 4 set) (bit 8 set)))
 
 -- "The first device entry spoken is chosen": its number, counted from i; 14 where there is none

@@ -27,15 +27,15 @@ pub(crate) fn supported_by(set: u32, v: Version) -> bool
     ensures { λ r. ⌜ r ≡ supports set v ⌝ }
 {
     if v.version == 3 {
-        return set % 2 == 1;
+        return base::has_bit(set, 1);
     }
     if v.minor == 0 {
-        return set / 2 % 2 == 1;
+        return base::has_bit(set, 2);
     }
     if v.minor == 1 {
-        return set / 4 % 2 == 1;
+        return base::has_bit(set, 4);
     }
-    set / 8 % 2 == 1
+    base::has_bit(set, 8)
 }
 
 // The first of the n entries that is supported.

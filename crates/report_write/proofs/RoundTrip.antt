@@ -81,7 +81,7 @@ halves count heads es z room bs f g h =
 pub reading-what-was-written : (count : ℕ) (heads : List ReportHead) (es : List ErrorRecord) (room : ℕ) (bs : List ℕ)
     → Each HeadFits (take count heads) → Each RecordFits es → reportsWritten count heads es room ≡ accepted bs
     → (reportBody bs ≡ accepted (placed (take count heads) 4)) × (recordsIn bs (placed (take count heads) 4) ≡ es)
-unfolding reportsWritten endOf
+unfolding reportsWritten endOf then
 reading-what-was-written count heads es room bs f g h =
     let w = wrote count heads es (beBytes 4 0) room bs h in
     let x = halves count heads es (beBytes 4 0) room bs f g h in

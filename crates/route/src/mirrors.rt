@@ -63,7 +63,7 @@ fn names_all(write: bool, flags: u32) -> bool
     if !write {
         return false;
     }
-    flags / 8 % 2 != 1
+    !base::has_bit(flags, 8)
 }
 
 pub(crate) fn mirrors_named(

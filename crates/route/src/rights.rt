@@ -97,7 +97,7 @@ pub(crate) fn is_barred(write: bool, iomode: Iomode, flags: u32) -> bool
     }
     match iomode {
         Iomode::Read => false,
-        Iomode::ReadWrite => flags / 4 % 2 == 1,
+        Iomode::ReadWrite => base::has_bit(flags, 4),
         Iomode::Any => false,
     }
 }

@@ -1,7 +1,8 @@
 // Stripes, by division and remainder: nothing is multiplied out, so nothing can wrap.
 use base::StripeNumber;
+use base::smaller;
 ghost use mathlib.Core.Path.{_≡_};
-ghost use Prim.Native.Nat.{_/_, _≤_, _<_, min};
+ghost use Prim.Native.Nat.{_/_, _≤_, _<_};
 ghost use Rattle.route.specs.Stripes.{pieceLength, stripeOf, unitRest};
 
 // Which unit of the file a byte is in.
@@ -31,24 +32,15 @@ pub(crate) fn stripe_of(unit: u64, servers: u32, offset: u64) -> StripeNumber
     StripeNumber(stripe)
 }
 
-fn shorter(a: u64, b: u64) -> u64
-    ensures { λ r. ⌜ r ≡ min a b ⌝ }
-{
-    if a < b {
-        return a;
-    }
-    b
-}
-
 // The rest of a segment can have 2^64 bytes, so one is taken off each length before they are compared.
 pub(crate) fn piece_length(unit: u64, servers: u32, last: u64, offset: u64, len: u64) -> u64
     requires { ⌜ (1 ≤ len) × (offset ≤ last) × (1 < servers → 0 < unit) ⌝ }
     ensures { λ r. ⌜ r ≡ pieceLength unit servers last offset len ⌝ }
 {
-    let held = shorter(len - 1, last - offset);
+    let held = smaller(len - 1, last - offset);
     if servers <= 1 {
         return held + 1;
     }
     let rest = unit_rest(unit, offset) - 1;
-    shorter(held, rest) + 1
+    smaller(held, rest) + 1
 }

@@ -1,4 +1,5 @@
 -- `route::mirrors::names_all` meets its contract.
+use borrow.Author.Needs.{needs}
 use borrow.Author.Tests.{not-false, not-true}
 use Rattle.route.proofs.mirrors.names_all.Statement.{statement}
 use Rattle.route.proofs.mirrors.names_all.Tie as tie
@@ -6,8 +7,11 @@ use Rattle.route.proofs.mirrors.names_all.Tie as tie
 returns : tie.Need-returns
 returns c = rw (not-true (c .before .args .write) (c .if1 .taken))
 
+has-bit-requires : tie.Need-has-bit-requires
+has-bit-requires c κs = search needs
+
 returns-2 : tie.Need-returns-2
-returns-2 c = rw (not-false (c .before .args .write) (c .if1 .left))
+returns-2 c = rw (not-false (c@args .write) (c@if1 .left), c@has-bit .ensures)
 
 pub names-all-spec : {M : Type 1} → statement M
-names-all-spec = tie.close (tie.spec returns returns-2)
+names-all-spec = tie.close (tie.spec returns has-bit-requires returns-2)

@@ -8,20 +8,20 @@ use native.Mathlib.Omega.{arith}
 use Rattle.route.proofs.stripes.piece_length.Statement.{statement}
 use Rattle.route.proofs.stripes.piece_length.Tie as tie
 
-sub-shorter : tie.Need-sub-shorter
-sub-shorter c = search needs
+sub-smaller : tie.Need-sub-smaller
+sub-smaller c = search needs
 
-sub-shorter-2 : tie.Need-sub-shorter-2
-sub-shorter-2 c = search needs
+sub-smaller-2 : tie.Need-sub-smaller-2
+sub-smaller-2 c = search needs
 
-shorter-requires : tie.Need-shorter-requires
-shorter-requires c κs = search needs
+smaller-requires : tie.Need-smaller-requires
+smaller-requires c κs = search needs
 
 add-result : tie.Need-add-result
 add-result c = search needs
 
 returns : tie.Need-returns
-returns c = piece-in-one (c .before .before .args .unit) (c .before .before .args .servers) (c .before .before .args .last) (c .before .before .args .offset) (c .before .before .args .len) _ (c .before .before .pre .0) (c .if1 .taken) (c .before .shorter .ensures)
+returns c = piece-in-one (c .before .before .args .unit) (c .before .before .args .servers) (c .before .before .args .last) (c .before .before .args .offset) (c .before .before .args .len) _ (c .before .before .pre .0) (c .if1 .taken) (c .before .smaller .ensures)
 
 unit-rest-requires : tie.Need-unit-rest-requires
 unit-rest-requires c κs = c .before .before .pre .2 (c .if1 .left)
@@ -32,26 +32,26 @@ sub-rest c =
     let e : c .unit-rest .result ≡ unitRest (c .before .before .before .args .unit) (c .before .before .before .args .offset) = c .unit-rest .ensures in
     omega arith
 
-shorter-requires-2 : tie.Need-shorter-requires-2
-shorter-requires-2 c κs = search needs
+smaller-requires-2 : tie.Need-smaller-requires-2
+smaller-requires-2 c κs = search needs
 
 add-result-2 : tie.Need-add-result-2
 add-result-2 c = search needs
 
 returns-2 : tie.Need-returns-2
-returns-2 c = piece-in-many (c .before .before .before .before .args .unit) (c .before .before .before .before .args .servers) (c .before .before .before .before .args .last) (c .before .before .before .before .args .offset) (c .before .before .before .before .args .len) _ _ _ (c .before .before .before .before .pre .0) (c .before .before .before .before .pre .2) (c .before .before .if1 .left) (c .before .before .before .shorter .ensures) (c .before .unit-rest .ensures) (c .shorter2 .ensures)
+returns-2 c = piece-in-many (c .before .before .before .before .args .unit) (c .before .before .before .before .args .servers) (c .before .before .before .before .args .last) (c .before .before .before .before .args .offset) (c .before .before .before .before .args .len) _ _ _ (c .before .before .before .before .pre .0) (c .before .before .before .before .pre .2) (c .before .before .if1 .left) (c .before .before .before .smaller .ensures) (c .before .unit-rest .ensures) (c .smaller2 .ensures)
 
 pub piece-length-spec : {M : Type 1} → statement M
 piece-length-spec =
     tie.close
     (tie.spec
-    sub-shorter
-    sub-shorter-2
-    shorter-requires
+    sub-smaller
+    sub-smaller-2
+    smaller-requires
     add-result
     returns
     unit-rest-requires
     sub-rest
-    shorter-requires-2
+    smaller-requires-2
     add-result-2
     returns-2)
