@@ -1,4 +1,4 @@
--- What the answers of a binding say; why..: the refusal in one, and of one with a value that of its kind.
+-- What the answers of a binding say.
 use Prim.Native.Nat.{ℕ}
 use Rattle.base.specs.Answer.{Answer, accepted, refused}
 use Rattle.base.specs.Refusals.{numberOf}

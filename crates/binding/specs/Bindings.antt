@@ -50,7 +50,8 @@ matches s server count id = sameBytes (bytesFrom deviceIdSize s (server .device)
 
 -- "the chosen entry is version 4, not tight, and the server's stateid is not 16 zero bytes" is 15
 unfoldable pub stateidFits : List ℕ → Version → ℕ → Bool
-stateidFits s v stateid = not (eqb (v .version) 4) || (v .tight || sameBytes (bytesFrom stateidSize s stateid) (replicate stateidSize 0))
+stateidFits s v stateid = not (eqb (v .version) 4)
+    || (v .tight || sameBytes (bytesFrom stateidSize s stateid) (replicate stateidSize 0))
 
 -- what is not used of a binding
 abbrev pub nowhere : Part

@@ -14,7 +14,7 @@ ghost use mathlib.Core.Logic.{_⊎_};
 ghost use mathlib.Core.Bool.{Bool, true, false, not, _&&_};
 ghost use mathlib.Core.List.{List, [], _∷_, _++_, map};
 ghost use lib.ListN.{getD, length, replicate, take};
-ghost use Rattle.base.specs.Limits.{mostServers, storeSize};
+ghost use Rattle.base.specs.Limits.{mostServers};
 ghost use Rattle.base.specs.Answer.{accepted, refused, given};
 ghost use Rattle.base.specs.Bits.{bit};
 ghost use Rattle.numbers.specs.Numbers.{AllBytes, beBytes, beValue};
@@ -37,7 +37,7 @@ ghost use Rattle.route.specs.declared.piece.Piece.{Piece};
 ghost use Rattle.route.specs.Mirrors.{efficiencyOf};
 ghost use Rattle.route.specs.Rights.{servedByRights, servedOf};
 ghost use Rattle.route.specs.Routes.{iomodeFor, layoutIn, routed};
-ghost use Rattle.store.specs.Store.{bodyIn, slotAt};
+ghost use Rattle.store.specs.Store.{bodyIn, slotAt, zeroStore};
 ghost use Rattle.reference.specs.AnyTable.{EndsBy, OfModel, Typed, leftBy, modelOf};
 ghost use Rattle.reference.specs.Claim.{Calls, Demand3, Fits, acceptedOf, answered, keptLeft, rightGiven, storeLeft};
 ghost use Rattle.reference.specs.Cases as cases;
@@ -161,31 +161,34 @@ pub fn demand_3()
 // RW under a body without flag 4; elsewhere the answer is 17. A request that is out of order is 5, and 20 never comes.
 pub fn io_goes_by_the_rights_that_events_give()
     ensures { λ r. ⌜ ((es : List Event) → Each Fits es → (write : Bool) (offset len : ℕ)
-        → given (routed write (keptLeft called es emptyTable (replicate storeSize 0)) (storeLeft called es emptyTable (replicate storeSize 0)) offset len)
-        (λ p. accepted (servedOf (storeLeft called es emptyTable (replicate storeSize 0)) p))
+        → given (routed write (keptLeft called es emptyTable zeroStore)
+        (storeLeft called es emptyTable zeroStore) offset len)
+        (λ p. accepted (servedOf (storeLeft called es emptyTable zeroStore) p))
         ≡ given (requestLast offset len) (λ last. servedByRights write
-        (rightGiven (acceptedOf es (answered called es emptyTable (replicate storeSize 0))) READ offset none)
-        (rightGiven (acceptedOf es (answered called es emptyTable (replicate storeSize 0))) RW offset none))) ⌝ }
+        (rightGiven (acceptedOf es (answered called es emptyTable zeroStore)) READ offset none)
+        (rightGiven (acceptedOf es (answered called es emptyTable zeroStore)) RW offset none))) ⌝ }
 {}
 
 // And not of the first byte alone: each byte of an answered piece is granted by the accepted events, in the iomode and under the body of the piece; for a
 // write that iomode is RW.
 pub fn each_byte_of_a_piece_is_granted()
     ensures { λ r. ⌜ ((es : List Event) → Each Fits es → (write : Bool) (offset len : ℕ) (p : Piece)
-        → routed write (keptLeft called es emptyTable (replicate storeSize 0)) (storeLeft called es emptyTable (replicate storeSize 0)) offset len ≡ accepted p
+        → routed write (keptLeft called es emptyTable zeroStore)
+        (storeLeft called es emptyTable zeroStore) offset len ≡ accepted p
         → (m : Mode) × (p .iomode ≡ iomodeFor m) × (write ≡ true → m ≡ RW)
         × ((x : ℕ) → offset ≤ x → x < offset + p .length
-        → rightGiven (acceptedOf es (answered called es emptyTable (replicate storeSize 0))) m x none
-        ≡ granted (bodyIn (slotAt (storeLeft called es emptyTable (replicate storeSize 0)) (p .slot .0))))) ⌝ }
+        → rightGiven (acceptedOf es (answered called es emptyTable zeroStore)) m x none
+        ≡ granted (bodyIn (slotAt (storeLeft called es emptyTable zeroStore) (p .slot .0))))) ⌝ }
 {}
 
 // The customer's complaint, "a table that has written after a recall": where a recall that covers a byte in RW is among the accepted events, and no grant
 // that covers it there comes after, that byte is in no piece that is answered to a write.
 pub fn no_write_after_a_recall()
     ensures { λ r. ⌜ ((es : List Event) → Each Fits es → (before : List Order) (o : Order) (after : List Order)
-        → acceptedOf es (answered called es emptyTable (replicate storeSize 0)) ≡ before ++ (o ∷ after) → o .deed ≡ recalls
+        → acceptedOf es (answered called es emptyTable zeroStore) ≡ before ++ (o ∷ after) → o .deed ≡ recalls
         → (x : ℕ) → covers o RW x ≡ true → Each (λ o. grantsByte RW x o ≡ false) after → (offset len : ℕ) (p : Piece)
-        → routed true (keptLeft called es emptyTable (replicate storeSize 0)) (storeLeft called es emptyTable (replicate storeSize 0)) offset len ≡ accepted p
+        → routed true (keptLeft called es emptyTable zeroStore)
+        (storeLeft called es emptyTable zeroStore) offset len ≡ accepted p
         → offset ≤ x → x < offset + p .length → ⊥) ⌝ }
 {}
 
@@ -194,7 +197,7 @@ pub fn no_write_after_a_recall()
 pub fn demand_3_of_exported_functions()
     ensures { λ r. ⌜ Demand3 tableOfRecord emptyRecord (byOwn lastByte) calledOn
         × ((es : List Event) → Each Fits es
-        → keptLeft calledOn es emptyRecord (replicate storeSize 0)
+        → keptLeft calledOn es emptyRecord zeroStore
         ≡ recordOf (tableOf lastByte (run (byOwn lastByte) es start))) ⌝ }
 {}
 
@@ -216,13 +219,15 @@ pub fn numbers_read_are_written()
 // mirror m's server k is at the index m * 16 + k.
 pub fn starts_are_by_mirror_and_stripe()
     ensures { λ r. ⌜ ((mirrors : List (List Server)) → ((m : ℕ) → length (getD mirrors m []) ≤ 16)
-        → (m k : ℕ) → k < mostServers → getD (startsOf mirrors) (m * 16 + k) 0 ≡ getD (map (λ v. v .device) (getD mirrors m [])) k 0) ⌝ }
+        → (m k : ℕ) → k < mostServers → getD (startsOf mirrors) (m * mostServers + k) 0
+        ≡ getD (map (λ v. v .device) (getD mirrors m [])) k 0) ⌝ }
 {}
 
 // "with 0 in unused places".
 pub fn other_starts_are_zero()
     ensures { λ r. ⌜ ((s : List ℕ) (l : Layout) → layoutBody s ≡ accepted l
-        → (m k : ℕ) → k < mostServers → (l .summary .mirrors ≤ m) ⊎ (l .summary .servers ≤ k) → startAt (l .starts) m k ≡ 0) ⌝ }
+        → (m k : ℕ) → k < mostServers → (l .summary .mirrors ≤ m) ⊎ (l .summary .servers ≤ k)
+        → startAt (l .starts) m k ≡ 0) ⌝ }
 {}
 
 // "The smallest accepted body has 80 bytes"; of layout4 "The smallest has 108 bytes": no accepted one has fewer, and one has so many. "By these counts a body
@@ -319,12 +324,13 @@ pub fn stand_ins_fall()
 // After every list of events table and store are sound.
 pub fn events_leave_sound_tables()
     ensures { λ r. ⌜ ((es : List Event) → Each Fits es
-        → sound (keptLeft called es emptyTable (replicate storeSize 0)) (storeLeft called es emptyTable (replicate storeSize 0)) ≡ true) ⌝ }
+        → sound (keptLeft called es emptyTable zeroStore) (storeLeft called es emptyTable zeroStore) ≡ true) ⌝ }
 {}
 
 // "20 never comes": no event of a list from the empty table is answered 20.
 pub fn no_list_meets_20()
-    ensures { λ r. ⌜ ((es : List Event) → Each Fits es → Each (λ n. n ≡ 20 → ⊥) (answered called es emptyTable (replicate storeSize 0))) ⌝ }
+    ensures { λ r. ⌜ ((es : List Event) → Each Fits es
+        → Each (λ n. n ≡ 20 → ⊥) (answered called es emptyTable zeroStore)) ⌝ }
 {}
 
 // "a whole-file recall or return (offset 0, length 2^64 - 1) and a revoke never meet 23", on whatever table of 64-bit numbers.

@@ -130,7 +130,9 @@ fn read_versions(s: &[u8], c: Cursor) -> VersionList
 }
 
 fn refuse(e: Fault) -> DeviceRead
-    ensures { λ r. ⌜ (answerOfDevice r ≡ refused (faultNumber e)) × (r .addresses ≡ replicate mostAddresses blankAddress) × (r .versions ≡ replicate mostVersions blankVersion) ⌝ }
+    ensures { λ r. ⌜ (answerOfDevice r ≡ refused (faultNumber e))
+        × (r .addresses ≡ replicate mostAddresses blankAddress)
+        × (r .versions ≡ replicate mostVersions blankVersion) ⌝ }
 {
     DeviceRead {
         answer: DeviceAnswer::Refused(e),

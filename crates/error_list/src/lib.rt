@@ -36,7 +36,8 @@ fn records_used(list_length: usize) -> usize
 // Record i of the wire records in a buffer. Those before it stay.
 fn put_record(buf: &mut [u8], i: usize, error: ErrorRecord)
     requires { ⌜ errorSize * (i + 1) ≤ length (now buf) ⌝ }
-    ensures { λ r. ⌜ recordsAt (i + 1) (now (buf .exit)) 0 ≡ recordsAt i (now (buf .entry)) 0 ++ (recordOf error ∷ []) ⌝ }
+    ensures { λ r. ⌜ recordsAt (i + 1) (now (buf .exit)) 0
+        ≡ recordsAt i (now (buf .entry)) 0 ++ (recordOf error ∷ []) ⌝ }
 {
     let device = error.device;
     report_write::put_error(buf, ERROR_SIZE * i, &device, error.status, error.operation);

@@ -1,4 +1,4 @@
--- What the answers of the layout body's readers say; why..: the refusal in one, and of one with a value the first of the refusals.
+-- What the answers of the layout body's readers say.
 use Prim.Native.Nat.{ℕ}
 use mathlib.Core.List.{List}
 use lib.ListN.{replicate}

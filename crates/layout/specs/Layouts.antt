@@ -54,7 +54,7 @@ rows (m ∷ ms) = padded mostServers 0 (map (λ v. v .device) m) ++ rows ms
 unfoldable pub startsOf : List (List Server) → List ℕ
 startsOf mirrors = padded mostStarts 0 (rows mirrors)
 
--- where a mirror's server of a stripe starts, in such a table: 0 beyond its places, and no stripe reaches into the next
+-- where a mirror's server of a stripe starts, in such a table: 0 beyond its places; no stripe reaches into the next
 -- mirror's
 unfoldable pub startAt : List ℕ → ℕ → ℕ → ℕ
 startAt starts mirror stripe = pick (ltb stripe mostServers) (getD starts (mirror * mostServers + stripe) 0) 0

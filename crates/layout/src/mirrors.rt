@@ -73,7 +73,8 @@ pub(crate) fn read_mirrors(
     servers: u32,
     starts: &mut [u16; MOST_STARTS],
 ) -> ReadEnd
-    requires { ⌜ (length (now s) ≤ longestBody) × (c .at ≤ length (now s)) × (mirrors ≤ mostMirrors) × (servers ≤ mostServers) ⌝ }
+    requires { ⌜ (length (now s) ≤ longestBody) × (c .at ≤ length (now s)) × (mirrors ≤ mostMirrors)
+        × (servers ≤ mostServers) ⌝ }
     ensures { λ r. ⌜ resOfStarts r (now (starts .exit)) ≡ withMirrors 0 (mirrorsAt mirrors servers (now (s .entry)) (c .at)) (now (starts .entry)) ⌝ }
 {
     let f = read_servers(s, c, servers, 0, starts);

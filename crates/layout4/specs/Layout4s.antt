@@ -30,7 +30,10 @@ frameAt s at =
     then (numAt 4 s p1) λ number p2.
     then (asItem (grantIomodeOf number) p2) λ iomode p3.
     then (numAt 4 s p3) λ kind p4.
-    pick (eqb kind 4) (then (countAt 0 longestBody s p4) λ size p5. ok (record { range = range; iomode = iomode; size = size }) p5) (no 4)
+    pick (eqb kind 4)
+    (then (countAt 0 longestBody s p4) λ size p5.
+    ok (record { range = range; iomode = iomode; size = size }) p5)
+    (no 4)
 
 -- frame: a layout4, in which `body` is where the body's bytes stand; body: the summary of what these bytes say
 pub record Whole : Type 0 where

@@ -17,7 +17,8 @@ ghost use Rattle.lookup.specs.Lookup.{namedSlots};
 fn mark_slot(named: &mut [bool; SLOT_PLACES], s: SlotNumber)
     requires { ⌜ length (now named) ≡ slotCount ⌝ }
     ensures { λ r. ⌜ (length (now (named .exit)) ≡ slotCount)
-        × ((i : ℕ) → i < slotCount → getD (now (named .exit)) i false ≡ (eqb i (s .0) || getD (now (named .entry)) i false)) ⌝ }
+        × ((i : ℕ) → i < slotCount → getD (now (named .exit)) i false
+        ≡ (eqb i (s .0) || getD (now (named .entry)) i false)) ⌝ }
 {
     if s.0 < SLOT_COUNT {
         let i = s.0 as usize;
@@ -28,7 +29,8 @@ fn mark_slot(named: &mut [bool; SLOT_PLACES], s: SlotNumber)
 fn mark(named: &mut [bool; SLOT_PLACES], right: Right)
     requires { ⌜ length (now named) ≡ slotCount ⌝ }
     ensures { λ r. ⌜ (length (now (named .exit)) ≡ slotCount)
-        × ((i : ℕ) → i < slotCount → getD (now (named .exit)) i false ≡ (isOfSlot i right || getD (now (named .entry)) i false)) ⌝ }
+        × ((i : ℕ) → i < slotCount → getD (now (named .exit)) i false
+        ≡ (isOfSlot i right || getD (now (named .entry)) i false)) ⌝ }
 {
     match right {
         Right::None => {}
@@ -40,7 +42,8 @@ fn mark(named: &mut [bool; SLOT_PLACES], right: Right)
 fn mark_all(named: &mut [bool; SLOT_PLACES], g: Segments)
     requires { ⌜ length (now named) ≡ slotCount ⌝ }
     ensures { λ r. ⌜ (length (now (named .exit)) ≡ slotCount)
-        × ((i : ℕ) → i < slotCount → getD (now (named .exit)) i false ≡ (anyNames i (listOf g) || getD (now (named .entry)) i false)) ⌝ }
+        × ((i : ℕ) → i < slotCount → getD (now (named .exit)) i false
+        ≡ (anyNames i (listOf g) || getD (now (named .entry)) i false)) ⌝ }
 {
     let n = segments::used_places(g.count);
     let mut k: usize = 0;

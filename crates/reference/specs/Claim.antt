@@ -4,8 +4,7 @@ use Prim.Native.Nat.{ℕ, suc, _≤_, _<_, _^_}
 use mathlib.Core.Path.{_≡_}
 use mathlib.Core.Bool.{Bool, false}
 use mathlib.Core.List.{List, [], _∷_, _++_}
-use lib.ListN.{length, replicate, getD}
-use Rattle.base.specs.Limits.{storeSize}
+use lib.ListN.{length, getD}
 use Rattle.base.specs.Answer.{Answer, accepted, refused}
 use Rattle.base.specs.Lists.{Each}
 use Rattle.base.specs.Ranges.{lastByte}
@@ -15,7 +14,7 @@ use Rattle.segments.specs.declared.Right.the-variants.{None, Granted, Recalled}
 use Rattle.segments.specs.declared.Segment.{Segment}
 use Rattle.segments.specs.declared.Table.{Table}
 use Rattle.segments.specs.Segments.{Mode, listIn, rightAt}
-use Rattle.store.specs.Store.{Slot, empty, holds, storeOf, Body}
+use Rattle.store.specs.Store.{Slot, empty, holds, storeOf, zeroStore, Body}
 use Rattle.reference.specs.Model.{ByteRight, none, granted, recalled, Model, Event, Grant, Return, Recall, Revoke, Order, Reference, afterAt, answers, covers, ifAccepted, own, run, tableOf}
 use Rattle.reference.specs.Sound.{slotsIn}
 
@@ -136,7 +135,7 @@ module _ {K L : Type 0} (table : K → Table) (first : K) (ref : Reference L) (c
     -- "and the ledger shows the same"
     pub same-rights : (m : Mode) (x : ℕ) → x ≤ lastByte → M .right m x ≡ rightGiven (acceptedOf es got) m x none
     -- "An accepted event changes no right outside its range and iomode; a refused one changes nothing."
-    pub confined : EachConfined table call es first (replicate storeSize 0)
+    pub confined : EachConfined table call es first zeroStore
     -- "The table kept is the one worked out afresh from those rights and the ledger's slots."
     pub same-table : t ≡ tableOf lastByte M
     -- and those are the slots that table and store show
@@ -154,7 +153,7 @@ module _ {K L : Type 0} (table : K → Table) (first : K) (ref : Reference L) (c
   abbrev pub Demand3 : Type 0
   Demand3 = (es : List Event) → Each Fits es
       → Agreed es
-      (answered call es first (replicate storeSize 0))
-      (table (keptLeft call es first (replicate storeSize 0)))
-      (storeLeft call es first (replicate storeSize 0))
+      (answered call es first zeroStore)
+      (table (keptLeft call es first zeroStore))
+      (storeLeft call es first zeroStore)
       (ref .model (run ref es (ref .first)))

@@ -29,7 +29,12 @@ resOfError (error.Refused e) = no (faultNumber e)
 
 -- a head whose stateid stands in the bytes s
 abbrev pub headFrom : List ℕ → HeadItem → ReportHead
-headFrom s h = record { offset = h .offset; length = h .length; stateid = bytesFrom stateidSize s (h .stateid); errors = h .errors }
+headFrom s h = record {
+  offset = h .offset;
+  length = h .length;
+  stateid = bytesFrom stateidSize s (h .stateid);
+  errors = h .errors;
+}
 
 abbrev pub resOfHead : List ℕ → ReadHead → Res ReportHead
 resOfHead s (head.Value h c) = ok (headFrom s h) (c .at)

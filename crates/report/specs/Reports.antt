@@ -1,6 +1,6 @@
 -- Error reports, ff_layoutreturn4 of RFC 8435, 9.3, of ff_ioerr4 (9.1.1) and device_error4 (RFC 7862): "Report count (0 to 8), reports, then a
 -- statistics count that must be 0 (else 8)."
-use Prim.Native.Nat.{ℕ}
+use Prim.Native.Nat.{ℕ, _+_}
 use mathlib.Core.List.{List}
 use mathlib.Core.Bool.{Bool, _&&_, _||_, not}
 use lib.ListN.{length}
@@ -17,6 +17,13 @@ use Rattle.report.specs.declared.ReportHead.{ReportHead}
 -- "an error's operation is not 5, 25 or 38 (COMMIT, READ, WRITE), or its status is 0": 27; this is the contrary
 unfoldable pub errorFits : ℕ → ℕ → Bool
 errorFits status operation = not (eqb status 0) && (eqb operation 5 || (eqb operation 25 || eqb operation 38))
+
+-- where status and operation stand in an error, from its start: "device id, status, operation"
+abbrev pub statusOffset : ℕ
+statusOffset = deviceIdSize
+
+abbrev pub operationOffset : ℕ
+operationOffset = statusOffset + 4
 
 -- "errors of device id, status, operation; an error is judged when all three are read"
 unfoldable pub errorAt : List ℕ → ℕ → Res ErrorItem

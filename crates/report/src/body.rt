@@ -57,7 +57,8 @@ fn blank_head() -> ReportHead
 
 fn read_arrays(s: &[u8], c: Cursor, n: u32) -> Arrays
     requires { ⌜ n ≤ mostReports ⌝ }
-    ensures { λ r. ⌜ resOfArrays (r .end) (r .count) (r .heads) (r .«errors_at») ≡ arraysFrom [] (manyAt reportAt n (now (s .entry)) (c .at)) ⌝ }
+    ensures { λ r. ⌜ resOfArrays (r .end) (r .count) (r .heads) (r .«errors_at»)
+        ≡ arraysFrom [] (manyAt reportAt n (now (s .entry)) (c .at)) ⌝ }
 {
     let blank = blank_head();
     let mut heads = [blank; REPORT_PLACES];
@@ -94,7 +95,8 @@ fn read_arrays(s: &[u8], c: Cursor, n: u32) -> Arrays
 
 // The first half: the count and the reports.
 fn reports_part(s: &[u8]) -> Arrays
-    ensures { λ r. ⌜ resOfArrays (r .end) (r .count) (r .heads) (r .«errors_at») ≡ arraysFrom [] (reportsAt (now (s .entry)) 0) ⌝ }
+    ensures { λ r. ⌜ resOfArrays (r .end) (r .count) (r .heads) (r .«errors_at»)
+        ≡ arraysFrom [] (reportsAt (now (s .entry)) 0) ⌝ }
 {
     let r = xdr::read_count(s, Cursor { at: 0 }, 0, MOST_REPORTS);
     let ReadU32::Value(n, c) = r else {
@@ -122,7 +124,8 @@ fn statistics_end(s: &[u8], c: Cursor) -> ReadEnd
 }
 
 fn refused(e: Fault) -> ReportsRead
-    ensures { λ r. ⌜ (answerOfCount (r .answer) ≡ refusedBy (faultNumber e)) × (r .heads ≡ headsOf []) × (r .«errors_at» ≡ placesOf []) ⌝ }
+    ensures { λ r. ⌜ (answerOfCount (r .answer) ≡ refusedBy (faultNumber e)) × (r .heads ≡ headsOf [])
+        × (r .«errors_at» ≡ placesOf []) ⌝ }
 {
     let blank = blank_head();
     let heads = [blank; REPORT_PLACES];

@@ -20,6 +20,18 @@ pub struct ReportHead {
     pub errors: u32,
 }
 
+// Where the items of a report's head stand, from its start: "offset, length .., stateid, error count".
+pub const LENGTH_OFFSET: usize = 8;
+
+pub const STATEID_OFFSET: usize = LENGTH_OFFSET + 8;
+
+pub const COUNT_OFFSET: usize = STATEID_OFFSET + STATEID_SIZE;
+
+// Where the items of an error stand, from its start: "device id, status, operation".
+pub const STATUS_OFFSET: usize = base::DEVICE_ID_SIZE;
+
+pub const OPERATION_OFFSET: usize = STATUS_OFFSET + 4;
+
 // One error. `device` is the place of its device id.
 pub struct ErrorItem {
     pub device: usize,

@@ -11,7 +11,8 @@ use Rattle.report_write.specs.Writing.{ErrorRecord, recordsAt}
 -- reports that are written from a place on: 36 bytes, then the errors of 24 bytes each
 unfoldable pub placed : List ReportHead → ℕ → List Report
 placed [] at = []
-placed (h ∷ hs) at = record { head = h; errors-at = at + reportHeadSize } ∷ placed hs (at + reportHeadSize + errorSize * h .errors)
+placed (h ∷ hs) at = record { head = h; errors-at = at + reportHeadSize }
+    ∷ placed hs (at + reportHeadSize + errorSize * h .errors)
 
 -- the records of the reports' errors, in order
 unfoldable pub recordsIn : List ℕ → List Report → List ErrorRecord

@@ -8,7 +8,7 @@ use Rattle.base.specs.Answer.{Answer, accepted, refused, given, pick}
 use Rattle.base.specs.Limits.{deviceIdSize, errorSize, mostErrors, mostReports, stateidSize}
 use Rattle.base.specs.Ranges.{rangeLast}
 use Rattle.numbers.specs.Numbers.{bytesFrom, beAt, beBytes}
-use Rattle.report.specs.Reports.{errorFits}
+use Rattle.report.specs.Reports.{errorFits, operationOffset, statusOffset}
 use Rattle.report.specs.declared.ReportHead.{ReportHead}
 
 -- one of the errors to be written
@@ -19,7 +19,11 @@ pub record ErrorRecord : Type 0 where
 
 -- the record whose 24 bytes stand at a place. A number that is not there whole is 0: a record that is not there whole is never allowed.
 unfoldable pub recordHere : List ℕ → ℕ → ErrorRecord
-recordHere s at = record { device = bytesFrom deviceIdSize s at; status = beAt 4 s (at + 16); operation = beAt 4 s (at + 20) }
+recordHere s at = record {
+  device = bytesFrom deviceIdSize s at;
+  status = beAt 4 s (at + statusOffset);
+  operation = beAt 4 s (at + operationOffset);
+}
 
 -- the n records from a place on
 unfoldable pub recordsAt : ℕ → List ℕ → ℕ → List ErrorRecord

@@ -63,8 +63,10 @@ pub fn write_reports(
     errors: &[u8],
     out: &mut [u8],
 ) -> Written
-    ensures { λ r. ⌜ (answerOfWritten r ≡ lengthOf (reportsWritten count heads (recordsAt «list_length» (now (errors .entry)) 0) (length (now (out .entry)))))
-        × (now (out .exit) ≡ outputAfter (now (out .entry)) (reportsWritten count heads (recordsAt «list_length» (now (errors .entry)) 0) (length (now (out .entry))))) ⌝ }
+    ensures { λ r. ⌜ (answerOfWritten r ≡ lengthOf
+        (reportsWritten count heads (recordsAt «list_length» (now (errors .entry)) 0) (length (now (out .entry)))))
+        × (now (out .exit) ≡ outputAfter (now (out .entry))
+        (reportsWritten count heads (recordsAt «list_length» (now (errors .entry)) 0) (length (now (out .entry))))) ⌝ }
 {
     let no_statistics = [0u8; 4];
     write_body(count, heads, list_length, errors, &no_statistics, out)

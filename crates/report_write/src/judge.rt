@@ -52,8 +52,8 @@ fn errors_fit(errors: &[u8], from: usize, n: usize) -> bool
     let mut at = from;
     let mut left = n;
     while 0 < left {
-        let status = numbers::be4(errors, at + 16);
-        let operation = numbers::be4(errors, at + 20);
+        let status = numbers::be4(errors, at + report::STATUS_OFFSET);
+        let operation = numbers::be4(errors, at + report::OPERATION_OFFSET);
         if !report::error_fits(status, operation) {
             return false;
         }
@@ -88,7 +88,8 @@ fn judge_one(head: ReportHead, errors: &[u8], from: usize) -> Judged
 // The reports in order.
 pub(crate) fn judge(heads: [ReportHead; REPORT_PLACES], count: usize, errors: &[u8]) -> Judged
     requires { ⌜ count ≤ mostReports ⌝ }
-    ensures { λ r. ⌜ answerOfJudged r ≡ judged (take count heads) (recordsAt (counts (take count heads)) (now (errors .entry)) 0) ⌝ }
+    ensures { λ r. ⌜ answerOfJudged r ≡ judged (take count heads)
+        (recordsAt (counts (take count heads)) (now (errors .entry)) 0) ⌝ }
 {
     let mut from: usize = 0;
     let mut i: usize = 0;

@@ -34,7 +34,8 @@ pub fn put_error(buf: &mut [u8], at: usize, device: &[u8], status: u32, operatio
 // The n records from a place on. They stand there as they are written.
 fn put_errors(out: &mut [u8], at: usize, errors: &[u8], from: usize, n: usize)
     requires { ⌜ (at + errorSize * n ≤ length (now out)) × (from + errorSize * n ≤ length (now errors)) ⌝ }
-    ensures { λ r. ⌜ now (out .exit) ≡ sets (now (out .entry)) at (errorsBytes (recordsAt n (now (errors .entry)) from)) ⌝ }
+    ensures { λ r. ⌜ now (out .exit) ≡ sets (now (out .entry)) at
+        (errorsBytes (recordsAt n (now (errors .entry)) from)) ⌝ }
 {
     let to = from + base::ERROR_SIZE * n;
     buffers::put_bytes(out, at, &errors[from..to]);
@@ -42,13 +43,14 @@ fn put_errors(out: &mut [u8], at: usize, errors: &[u8], from: usize, n: usize)
 
 fn put_head(out: &mut [u8], at: usize, head: ReportHead)
     requires { ⌜ at + reportHeadSize ≤ length (now out) ⌝ }
-    ensures { λ r. ⌜ (now (out .exit) ≡ sets (now (out .entry)) at (headBytes head)) × (length (head .stateid) ≡ stateidSize) ⌝ }
+    ensures { λ r. ⌜ (now (out .exit) ≡ sets (now (out .entry)) at (headBytes head))
+        × (length (head .stateid) ≡ stateidSize) ⌝ }
 {
     let stateid = head.stateid;
     buffers::put_be8(out, at, head.offset);
-    buffers::put_be8(out, at + 8, head.length);
-    buffers::put_bytes(out, at + 16, &stateid);
-    buffers::put_be4(out, at + 32, head.errors);
+    buffers::put_be8(out, at + report::LENGTH_OFFSET, head.length);
+    buffers::put_bytes(out, at + report::STATEID_OFFSET, &stateid);
+    buffers::put_be4(out, at + report::COUNT_OFFSET, head.errors);
 }
 
 // The reports in order, from place 4 on.
@@ -58,8 +60,11 @@ pub(crate) fn put_reports(
     count: usize,
     errors: &[u8],
 )
-    requires { ⌜ (count ≤ mostReports) × (4 + reportHeadSize * count + errorSize * counts (take count heads) ≤ length (now out)) × (errorSize * counts (take count heads) ≤ length (now errors)) ⌝ }
-    ensures { λ r. ⌜ now (out .exit) ≡ sets (now (out .entry)) 4 (reportsBytes (take count heads) (recordsAt (counts (take count heads)) (now (errors .entry)) 0)) ⌝ }
+    requires { ⌜ (count ≤ mostReports)
+        × (4 + reportHeadSize * count + errorSize * counts (take count heads) ≤ length (now out))
+        × (errorSize * counts (take count heads) ≤ length (now errors)) ⌝ }
+    ensures { λ r. ⌜ now (out .exit) ≡ sets (now (out .entry)) 4
+        (reportsBytes (take count heads) (recordsAt (counts (take count heads)) (now (errors .entry)) 0)) ⌝ }
 {
     let mut p: usize = 4;
     let mut from: usize = 0;

@@ -1,4 +1,4 @@
--- What the answers of the data server's readers say; why..: the refusal in one, and of one with a value the first of the refusals.
+-- What the answers of the data server's readers say.
 use Rattle.base.specs.Refusals.{faultNumber}
 use Rattle.xdr.specs.Res.{Res, ok, no}
 use Rattle.server.specs.declared.head.ServerHead.{ServerHead}

@@ -16,7 +16,8 @@ ghost use Rattle.reference.specs.Sound.{noTwoAlike, slotsFrom, slotsIn};
 // Whether a slot from this one on holds the body.
 fn is_held_from(named: [bool; SLOT_PLACES], store: &[u8], from: SlotNumber, body: &[u8]) -> bool
     ensures { λ r. ⌜ ((t : Table) → named ≡ namedSlots t
-        → r ≡ inSlots (now (body .entry)) (slotsFrom (isNamed t) (now (store .entry)) (slotCount - from .0) (from .0))) ⌝ }
+        → r ≡ inSlots (now (body .entry))
+        (slotsFrom (isNamed t) (now (store .entry)) (slotCount - from .0) (from .0))) ⌝ }
 {
     let mut j = from.0;
     while j < SLOT_COUNT {

@@ -79,7 +79,8 @@ pub(crate) fn judge_slots(named: [bool; SLOT_PLACES], store: &[u8], wanted: Slot
     ensures { λ r. ⌜ ((t : Table) → named ≡ namedSlots t
         → (r .sound ≡ slotsSound t (now (store .entry)) slotCount 0)
         × (r .sound ≡ true
-        → (answerOfLayout (r .read .answer) (r .read .starts) ≡ layoutNamed t (now (store .entry)) (wanted .0) slotCount)
+        → (answerOfLayout (r .read .answer) (r .read .starts)
+        ≡ layoutNamed t (now (store .entry)) (wanted .0) slotCount)
         × (r .read .starts ≡ startsIn (layoutNamed t (now (store .entry)) (wanted .0) slotCount))
         × (r .named ≡ namedSlots t))) ⌝ }
 {

@@ -3,7 +3,7 @@ use Prim.Native.Nat.{ℕ, _+_, _-_, _*_}
 use mathlib.Core.List.{List, [], _∷_, _++_}
 use lib.ListN.{length, replicate}
 use lib.Dec.{leb}
-use Rattle.base.specs.Limits.{longestBody, slotHeadSize, slotSize}
+use Rattle.base.specs.Limits.{longestBody, slotHeadSize, slotSize, storeSize}
 use Rattle.base.specs.Answer.{pick}
 use Rattle.buffers.specs.Buffers.{stored}
 use Rattle.numbers.specs.Numbers.{bytesFrom, leAt, leBytes}
@@ -20,6 +20,10 @@ pub data Slot : Type 0 where
 unfoldable pub slotBytes : Slot → List ℕ
 slotBytes empty = replicate slotSize 0
 slotBytes (holds b) = leBytes 4 (length b) ++ (leBytes 2 4 ++ (b ++ replicate (longestBody - length b) 0))
+
+-- "a zeroed shelf"
+abbrev pub zeroStore : List ℕ
+zeroStore = replicate storeSize 0
 
 -- "Its shelf is its slots, laid out as above."
 unfoldable pub storeOf : List Slot → List ℕ

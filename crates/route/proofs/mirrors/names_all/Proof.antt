@@ -11,7 +11,7 @@ has-bit-requires : tie.Need-has-bit-requires
 has-bit-requires c κs = search needs
 
 returns-2 : tie.Need-returns-2
-returns-2 c = rw (not-false (c@args .write) (c@if1 .left), c@has-bit .ensures)
+returns-2 c = rw (not-false (c .before .before .args .write) (c .before .if1 .left), c .has-bit .ensures)
 
 pub names-all-spec : {M : Type 1} → statement M
 names-all-spec = tie.close (tie.spec returns has-bit-requires returns-2)

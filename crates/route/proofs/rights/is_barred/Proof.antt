@@ -22,7 +22,7 @@ returns-2 : tie.Need-returns-2
 returns-2 c = search needs
 
 returns-3 : tie.Need-returns-3
-returns-3 c = rw (c@if1 .left, c@enum-told2 .given .1) (c@has-bit .ensures)
+returns-3 c = rw (c .before .before .before .if1 .left, c .before .enum-told2 .given .1) (c .has-bit .ensures)
 
 returns-4 : tie.Need-returns-4
 returns-4 c = search needs
