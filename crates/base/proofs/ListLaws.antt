@@ -7,7 +7,7 @@ use native.Mathlib.Nat.{add-zero}
 use native.Mathlib.Numerals.{add-one}
 use native.Mathlib.Omega.{arith}
 use lib.ListN.{length, take, drop, getD, replicate, set, length-append, length-map, length-replicate, length-set, replicate-append-replicate}
-use lib.Seq.{append-snoc, drop-append-add, set-append-left, set-at, set-comm, sets, sets-eq, take-all, take-append-seam, take-suc, take-suc-set}
+use lib.Seq.{append-snoc, drop-append-add, set-append-left, set-at, set-comm, sets, sets-eq, take-all, take-append-seam, take-nil, take-suc, take-suc-set, take-take}
 use Rattle.base.specs.Lists.{Each, padded}
 
 -- the length of an array of structs, from what is known of a parameter
@@ -54,6 +54,29 @@ each-at P (a ∷ l) (suc i) d h k = each-at P l i d (h .1) (omega arith)
 pub each-map : {A B : Type 0} (f : A → B) (P : B → Type 0) (l : List A) → Each (λ a. P (f a)) l → Each P (map f l)
 each-map f P [] h = tt
 each-map f P (a ∷ l) h = (h .0, each-map f P l (h .1))
+
+pub each-taken : {A : Type 0} (P : A → Type 0) (n : ℕ) (l : List A) → Each P l → Each P (take n l)
+each-taken P zero l g = tt
+each-taken P (suc n) [] g = tt
+each-taken P (suc n) (a ∷ l) g = (g .0, each-taken P n l (g .1))
+
+pub each-behind : {A : Type 0} (P : A → Type 0) (n : ℕ) (l : List A) → Each P l → Each P (drop n l)
+each-behind P zero l g = g
+each-behind P (suc n) [] g = tt
+each-behind P (suc n) (a ∷ l) g = each-behind P n l (g .1)
+
+-- ---- lists that begin alike
+
+pub alike-less : {A : Type 0} (m n : ℕ) (xs ys : List A) → m ≤ n → take n xs ≡ take n ys → take m xs ≡ take m ys
+alike-less m n xs ys h e = sym (take-take m n xs h) ∙ ap (take m) e ∙ take-take m n ys h
+
+drop-take : {A : Type 0} (n m : ℕ) (xs : List A) → drop n (take (n + m) xs) ≡ take m (drop n xs)
+drop-take zero m xs = let e : 0 + m ≡ m = omega arith in rw e
+drop-take (suc n) m [] = let e : suc n + m ≡ suc (n + m) = omega arith in rw e (sym (take-nil m))
+drop-take (suc n) m (x ∷ xs) = let e : suc n + m ≡ suc (n + m) = omega arith in rw e (drop-take n m xs)
+
+pub alike-behind : {A : Type 0} (n m : ℕ) (xs ys : List A) → take (n + m) xs ≡ take (n + m) ys → take m (drop n xs) ≡ take m (drop n ys)
+alike-behind n m xs ys e = sym (drop-take n m xs) ∙ ap (drop n) e ∙ drop-take n m ys
 
 -- ---- a list, and one value behind it
 

@@ -1,5 +1,5 @@
-// What every layer shares: refusals with their numbers, iomodes, the three kinds of number, limits and sizes, the two range
-// rules, and functions of single numbers.
+// What every layer shares: refusals with their numbers, iomodes, the three kinds of number, limits and sizes, the two
+// range rules, and functions of single numbers.
 mod bits;
 mod iomode;
 mod limits;

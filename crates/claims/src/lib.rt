@@ -14,7 +14,7 @@ ghost use mathlib.Core.Logic.{_⊎_};
 ghost use mathlib.Core.Bool.{Bool, true, false, not, _&&_};
 ghost use mathlib.Core.List.{List, [], _∷_, _++_, map};
 ghost use lib.ListN.{getD, length, replicate, take};
-ghost use Rattle.base.specs.Limits.{mostServers};
+ghost use Rattle.base.specs.Limits.{errorSize, mostServers, reportHeadSize};
 ghost use Rattle.base.specs.Answer.{accepted, refused, given};
 ghost use Rattle.base.specs.Bits.{bit};
 ghost use Rattle.numbers.specs.Numbers.{AllBytes, beBytes, beValue};
@@ -218,7 +218,7 @@ pub fn numbers_read_are_written()
 // "says where each server starts, by mirror and by stripe": in the 128 starts of an accepted body, which are `startsOf` its mirrors, the start of
 // mirror m's server k is at the index m * 16 + k.
 pub fn starts_are_by_mirror_and_stripe()
-    ensures { λ r. ⌜ ((mirrors : List (List Server)) → ((m : ℕ) → length (getD mirrors m []) ≤ 16)
+    ensures { λ r. ⌜ ((mirrors : List (List Server)) → ((m : ℕ) → length (getD mirrors m []) ≤ mostServers)
         → (m k : ℕ) → k < mostServers → getD (startsOf mirrors) (m * mostServers + k) 0
         ≡ getD (map (λ v. v .device) (getD mirrors m [])) k 0) ⌝ }
 {}
@@ -238,7 +238,8 @@ pub fn bodies_have_their_sizes()
         × ((s : List ℕ) (w : Whole) → layout4 s ≡ accepted w → 108 ≤ length s)
         × ((isAccepted (layout4 (grantBytes 0 1 2 0)) ≡ true) × (length (grantBytes 0 1 2 0) ≡ 108))
         × ((s : List ℕ) (rs : List Report) → reportBody s ≡ accepted rs
-        → (length s ≡ 8 + 36 * length rs + 24 * counts (map (λ r. r .head) rs)) × (length s ≤ 3368))
+        → (length s ≡ 8 + reportHeadSize * length rs + errorSize * counts (map (λ r. r .head) rs))
+        × (length s ≤ 3368))
         × ((s : List ℕ) (r : Report) → reportBody s ≡ accepted (r ∷ []) → r .head .errors ≡ 1 → length s ≡ 68) ⌝ }
 {}
 

@@ -8,6 +8,7 @@ use borrow.Author.Tests.{leb-true, leb-false}
 use lib.Dec.{leb}
 use lib.ListN.{length, take, drop, length-map}
 use lib.Seq.{drop-at, length-sets, length-take-le, sets, sets-eq, take-all, take-at}
+use Rattle.base.proofs.ListLaws.{alike-behind, alike-less}
 use Rattle.buffers.specs.Buffers.{stored}
 use Rattle.buffers.proofs.StoredLaws.{fits-stored}
 use Rattle.numbers.specs.Numbers.{beAt, bytesFrom}
@@ -21,7 +22,7 @@ use Rattle.report_write.proofs.StoringLaws.{length-error}
 use Rattle.report_write.proofs.Written.{record-stands}
 use Rattle.error_list.specs.Records.{recordOf, recordsOf}
 use Rattle.error_list.specs.declared.ErrorRecord.{ErrorRecord}
-use Rattle.error_list.proofs.FirstRecords.{alike-behind, alike-less, firsts-decide}
+use Rattle.error_list.proofs.FirstRecords.{firsts-decide}
 
 -- ---- buffers that begin alike
 

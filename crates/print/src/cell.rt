@@ -1,6 +1,7 @@
 // Text in cells of one width.
 use crate::say;
 use crate::say_number;
+ghost use Rattle.io.specs.Digits.{Fewest};
 
 pub fn say_times(text: &[u8], n: u64) {
     let mut i: u64 = 0;
@@ -10,8 +11,10 @@ pub fn say_times(text: &[u8], n: u64) {
     }
 }
 
-// How many digits a number has.
-pub fn digits(v: u64) -> u64 {
+// How many digits a number has, written without zeros in front.
+pub fn digits(v: u64) -> u64
+    ensures { λ r. ⌜ Fewest 10 1 v r ⌝ }
+{
     let mut out = [0u8; 20];
     io::decimal(v, &mut out) as u64
 }

@@ -1,6 +1,7 @@
 // Words and numbers, to standard output.
 mod cell;
 
+use base::DEVICE_ID_SIZE;
 use base::Fault;
 use base::Refusal;
 use base::wide8;
@@ -83,10 +84,10 @@ pub fn say_device_id(bytes: &[u8], at: usize) {
     if bytes.len() < at {
         return;
     }
-    if bytes.len() - at < 16 {
+    if bytes.len() - at < DEVICE_ID_SIZE {
         return;
     }
-    let end = at + 16;
+    let end = at + DEVICE_ID_SIZE;
     say_hex(&bytes[at..end]);
 }
 

@@ -76,5 +76,3 @@ arraysFrom done x = then x λ rs p. ok (length (done ++ rs), (headsOf (done ++ r
 abbrev pub resOfArrays : ReadEnd → ℕ → List ReportHead → List ℕ → Res (ℕ × (List ReportHead × List ℕ))
 resOfArrays (end.Value c) n heads places = ok (n, (heads, places)) (c .at)
 resOfArrays (end.Refused e) n heads places = no (faultNumber e)
-
--- ---- the refusal in an answer; of an answer with a value, the first of the refusals

@@ -21,7 +21,7 @@ use Rattle.xdr.proofs.StandingItems.{num-back}
 use Rattle.report.specs.Reports.{errorAt, errorFits, headAt, Report, reportAt}
 use Rattle.report.specs.declared.ErrorItem.{ErrorItem}
 use Rattle.report.specs.declared.ReportHead.{ReportHead}
-use Rattle.xdr.proofs.ManyLaws.{many-none}
+use Rattle.xdr.proofs.ManyLaws.{first-read, many-none}
 use Rattle.report_write.specs.Places.{recordsIn}
 use Rattle.report_write.specs.Writing.{allFit, counts, ErrorRecord, errorsBytes, headBytes, judged, judgedOne, recordHere, recordsAt, reportsBytes}
 use Rattle.report_write.proofs.RecordLaws.{length-records}
@@ -204,25 +204,17 @@ report-parts s at r p e =
     let b = ran _ _ _ _ (a .rest) in
     (a .item, a .next, b .item, a .first, b .first ∙ ap (ok (b .item)) (same-place (b .rest)), sym (same-value (b .rest)))
 
-many-parts : (n : ℕ) (s : List ℕ) (at : ℕ) (rs : List Report) (p : ℕ) → manyAt reportAt (suc n) s at ≡ ok rs p
-    → (r : Report) × (q : ℕ) × (qs : List Report) × (reportAt s at ≡ ok r q) × (manyAt reportAt n s q ≡ ok qs p) × (rs ≡ r ∷ qs)
-unfolding manyAt
-many-parts n s at rs p e =
-    let a = ran _ _ _ _ e in
-    let b = ran _ _ _ _ (a .rest) in
-    (a .item, a .next, b .item, a .first, b .first ∙ ap (ok (b .item)) (same-place (b .rest)), sym (same-value (b .rest)))
-
 pub reports-back : (n : ℕ) (s : List ℕ) (at : ℕ) (rs : List Report) (p : ℕ) → AllBytes s → at ≤ length s → manyAt reportAt n s at ≡ ok rs p → ReportsBack rs s at p
 reports-back zero s at rs p b r h = go rs p (sym (many-none reportAt zero s at refl) ∙ h) where
   go : (rs : List Report) (p : ℕ) → ok [] at ≡ ok rs p → ReportsBack rs s at p
   go rs p e = rw (← same-value e, ← same-place e) (no-reports s at at r refl)
 reports-back (suc n) s at rs p b r h =
-    let a = many-parts n s at rs p h in
-    let c = report-parts s at (a .0) (a .1) (a .3) in
+    let a = first-read reportAt n s at rs p h in
+    let c = report-parts s at (a .head) (a .next) (a .first) in
     let x = head-back s at (c .0) (c .1) b (c .3) in
     let m : c .1 ≤ length s = omega (arith, x .stands .room, x .size, x .place) in
-    let y = errors-back (c .0 .errors) s (c .1) (c .2) (a .1) m (c .4) in
-    let z = reports-back n s (a .1) (a .2) p b (y .within) (a .4) in
-    go rs (a .0) (a .2) (a .5) (c .5) (reports-more (c .0) (a .2) s at (c .1) (a .1) p b x y z) where
+    let y = errors-back (c .0 .errors) s (c .1) (c .2) (a .next) m (c .4) in
+    let z = reports-back n s (a .next) (a .others) p b (y .within) (a .rest) in
+    go rs (a .head) (a .others) (sym (a .all)) (c .5) (reports-more (c .0) (a .others) s at (c .1) (a .next) p b x y z) where
       go : (rs : List Report) (r : Report) (qs : List Report) {r' : Report} → rs ≡ r ∷ qs → r ≡ r' → ReportsBack (r' ∷ qs) s at p → ReportsBack rs s at p
       go rs r qs e f w = rw (e, f) w

@@ -7,6 +7,7 @@ use native.Mathlib.Omega.{arith}
 use borrow.Author.Tests.{le-leb}
 use lib.ListN.{length, take, drop, length-append, length-drop, take-append-drop}
 use lib.Seq.{length-take-le}
+use Rattle.base.proofs.ListLaws.{each-behind, each-taken}
 use Rattle.base.specs.Answer.{accepted, pick}
 use Rattle.base.specs.Lists.{Each}
 use Rattle.base.proofs.AnswerLaws.{both, gave}
@@ -93,16 +94,6 @@ report-stands h s at es f g k n w =
     let r = errors-stand es s (at + 36) g (k .fit) (rw p at (a .1)) in
     rw (report-ends s at, head-stands h s at es f k (a .0), ← n, r)
 
-pub taken-each : (n : ℕ) (es : List ErrorRecord) → Each RecordFits es → Each RecordFits (take n es)
-taken-each zero es g = tt
-taken-each (suc n) [] g = tt
-taken-each (suc n) (e ∷ es) g = (g .0, taken-each n es (g .1))
-
-pub dropped-each : (n : ℕ) (es : List ErrorRecord) → Each RecordFits es → Each RecordFits (drop n es)
-dropped-each zero es g = g
-dropped-each (suc n) [] g = tt
-dropped-each (suc n) (e ∷ es) g = dropped-each n es (g .1)
-
 pub length-errors-fit : (es : List ErrorRecord) → Each RecordFits es → length (errorsBytes es) ≡ 24 * length es
 unfolding errorsBytes
 length-errors-fit [] g = refl
@@ -122,13 +113,13 @@ reports-stand (h ∷ hs) es s at f g j c w =
     let n : length xs ≡ h .errors = length-take-le (h .errors) es (omega (arith, c)) in
     let w' : Stands (headBytes h ++ errorsBytes xs ++ reportsBytes hs ys) s at = rw (append-assoc (headBytes h) (errorsBytes xs) (reportsBytes hs ys)) w in
     let b = stands-parts (headBytes h ++ errorsBytes xs) (reportsBytes hs ys) s at w' in
-    let m : length (errorsBytes xs) ≡ 24 * h .errors = length-errors-fit xs (taken-each (h .errors) es g) ∙ ap (λ (i : ℕ). 24 * i) n in
+    let m : length (errorsBytes xs) ≡ 24 * h .errors = length-errors-fit xs (each-taken RecordFits (h .errors) es g) ∙ ap (λ (i : ℕ). 24 * i) n in
     let p : at + length (headBytes h ++ errorsBytes xs) ≡ at + 36 + 24 * h .errors = rw (length-append (headBytes h) (errorsBytes xs)) (omega (arith, length-head h (f .0 .2), m)) in
     let c' : counts hs ≡ length ys = rw (length-drop (h .errors) es) (omega (arith, c)) in
-    let r = reports-stand hs ys s (at + 36 + 24 * h .errors) (f .1) (dropped-each (h .errors) es g) (a .rest) c' (rw p at (b .1)) in
+    let r = reports-stand hs ys s (at + 36 + 24 * h .errors) (f .1) (each-behind RecordFits (h .errors) es g) (a .rest) c' (rw p at (b .1)) in
     let z : at + 36 + 24 * h .errors + length (reportsBytes hs ys) ≡ at + length (headBytes h ++ (errorsBytes xs ++ reportsBytes hs ys)) =
     rw (length-append (headBytes h) (errorsBytes xs ++ reportsBytes hs ys), length-append (errorsBytes xs) (reportsBytes hs ys)) (omega (arith, length-head h (f .0 .2), m)) in
-    rw (report-stands h s at xs (f .0) (taken-each (h .errors) es g) k n (b .0), r, z)
+    rw (report-stands h s at xs (f .0) (each-taken RecordFits (h .errors) es g) k n (b .0), r, z)
 
 -- ---- the records that stand there
 
@@ -159,13 +150,13 @@ placed-records (h ∷ hs) es s at f g c w =
     let xs = take (h .errors) es in
     let ys = drop (h .errors) es in
     let n : length xs ≡ h .errors = length-take-le (h .errors) es (omega (arith, c)) in
-    let m : length (errorsBytes xs) ≡ 24 * h .errors = length-errors-fit xs (taken-each (h .errors) es g) ∙ ap (λ (i : ℕ). 24 * i) n in
+    let m : length (errorsBytes xs) ≡ 24 * h .errors = length-errors-fit xs (each-taken RecordFits (h .errors) es g) ∙ ap (λ (i : ℕ). 24 * i) n in
     let a = stands-parts (headBytes h) (errorsBytes xs ++ reportsBytes hs ys) s at w in
     let b = stands-parts (errorsBytes xs) (reportsBytes hs ys) s (at + length (headBytes h)) (a .1) in
     let p : at + length (headBytes h) ≡ at + 36 = omega (arith, length-head h (f .0 .2)) in
     let q : at + length (headBytes h) + length (errorsBytes xs) ≡ at + 36 + 24 * h .errors = omega (arith, length-head h (f .0 .2), m) in
     let c' : counts hs ≡ length ys = rw (length-drop (h .errors) es) (omega (arith, c)) in
     let x : recordsAt (h .errors) s (at + 36) ≡ xs =
-    ap (λ (i : ℕ). recordsAt i s (at + 36)) (sym n) ∙ records-stand xs s (at + 36) (taken-each (h .errors) es g) (rw p at (b .0)) in
-    let y = placed-records hs ys s (at + 36 + 24 * h .errors) (f .1) (dropped-each (h .errors) es g) c' (rw q at (b .1)) in
+    ap (λ (i : ℕ). recordsAt i s (at + 36)) (sym n) ∙ records-stand xs s (at + 36) (each-taken RecordFits (h .errors) es g) (rw p at (b .0)) in
+    let y = placed-records hs ys s (at + 36 + 24 * h .errors) (f .1) (each-behind RecordFits (h .errors) es g) c' (rw q at (b .1)) in
     rw (x, y) (take-append-drop (h .errors) es)

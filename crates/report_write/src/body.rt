@@ -4,8 +4,10 @@ use crate::judge::judge;
 use crate::judge::total;
 use crate::judge::why_judged;
 use crate::put::put_reports;
+use base::ERROR_SIZE;
 use base::Fault;
 use base::MOST_REPORTS;
+use base::REPORT_HEAD_SIZE;
 use base::REPORT_PLACES;
 use base::Refusal;
 use report::ReportHead;
@@ -44,7 +46,7 @@ fn write_body(
     let Judged::Allowed = j else {
         return Written::Refused(Refusal::Fault(why_judged(j)));
     };
-    let before = 4 + base::REPORT_HEAD_SIZE * n + base::ERROR_SIZE * list_length;
+    let before = 4 + REPORT_HEAD_SIZE * n + ERROR_SIZE * list_length;
     let size = before + tail.len();
     if out.len() < size {
         return Written::Refused(Refusal::OutputTooShort);

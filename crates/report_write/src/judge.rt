@@ -1,11 +1,12 @@
 // Whether reports may be written: the sum of their error counts, and each report in order.
+use base::ERROR_SIZE;
 use base::Fault;
 use base::Last;
 use base::MOST_ERRORS;
 use base::REPORT_PLACES;
 use report::ReportHead;
 ghost use mathlib.Core.Path.{_≡_};
-ghost use Rattle.base.specs.Limits.{errorSize, mostReports, stateidSize};
+ghost use Rattle.base.specs.Limits.{errorSize, mostErrors, mostErrorsInAll, mostReports, stateidSize};
 ghost use Rattle.base.specs.Answer.{refusalIn};
 ghost use Rattle.base.specs.Refusals.{faultNumber};
 ghost use Prim.Native.Nat.{_+_, _*_, _≤_};
@@ -46,7 +47,7 @@ pub(crate) fn total(heads: [ReportHead; REPORT_PLACES], count: usize) -> u64
 
 // The n records from a place on: each may be written.
 fn errors_fit(errors: &[u8], from: usize, n: usize) -> bool
-    requires { ⌜ from + errorSize * n ≤ 65536 ⌝ }
+    requires { ⌜ (from ≤ errorSize * mostErrorsInAll) × (n ≤ mostErrors) ⌝ }
     ensures { λ r. ⌜ r ≡ allFit (recordsAt n (now (errors .entry)) from) ⌝ }
 {
     let mut at = from;
@@ -57,7 +58,7 @@ fn errors_fit(errors: &[u8], from: usize, n: usize) -> bool
         if !report::error_fits(status, operation) {
             return false;
         }
-        at += base::ERROR_SIZE;
+        at += ERROR_SIZE;
         left -= 1;
     }
     true
@@ -65,7 +66,7 @@ fn errors_fit(errors: &[u8], from: usize, n: usize) -> bool
 
 // One report whose first error stands at a place of the records.
 fn judge_one(head: ReportHead, errors: &[u8], from: usize) -> Judged
-    requires { ⌜ from ≤ 32768 ⌝ }
+    requires { ⌜ from ≤ errorSize * mostErrorsInAll ⌝ }
     ensures { λ r. ⌜ answerOfJudged r ≡ judgedOne head (recordsAt (head .errors) (now (errors .entry)) from) ⌝ }
 {
     let last = base::range_last(head.offset, head.length);
@@ -100,7 +101,7 @@ pub(crate) fn judge(heads: [ReportHead; REPORT_PLACES], count: usize, errors: &[
         let Judged::Allowed = r else {
             return r;
         };
-        from += base::ERROR_SIZE * n;
+        from += ERROR_SIZE * n;
         i += 1;
     }
     Judged::Allowed

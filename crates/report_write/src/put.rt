@@ -37,7 +37,7 @@ fn put_errors(out: &mut [u8], at: usize, errors: &[u8], from: usize, n: usize)
     ensures { λ r. ⌜ now (out .exit) ≡ sets (now (out .entry)) at
         (errorsBytes (recordsAt n (now (errors .entry)) from)) ⌝ }
 {
-    let to = from + base::ERROR_SIZE * n;
+    let to = from + ERROR_SIZE * n;
     buffers::put_bytes(out, at, &errors[from..to]);
 }
 
@@ -75,7 +75,7 @@ pub(crate) fn put_reports(
         put_head(out, p, head);
         put_errors(out, p + REPORT_HEAD_SIZE, errors, from, n);
         p += REPORT_HEAD_SIZE + ERROR_SIZE * n;
-        from += base::ERROR_SIZE * n;
+        from += ERROR_SIZE * n;
         i += 1;
     }
 }

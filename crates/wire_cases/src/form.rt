@@ -1,5 +1,6 @@
 // The forms of the payloads that have more than a body.
 use base::ERROR_SIZE;
+use base::MOST_ERRORS_IN_ALL;
 use base::MOST_REPORTS;
 use base::REPORT_HEAD_SIZE;
 ghost use Prim.Native.Nat.{_≤_};
@@ -10,7 +11,7 @@ ghost use Rattle.wire_cases.specs.Forms.{isBind, isReportWrite, listAt};
 const MOST_OUTPUT: u32 = 4096;
 
 // The longest error list of a report-write.
-const MOST_ERRORS: u32 = 128;
+const LONGEST_LIST: u32 = MOST_ERRORS_IN_ALL as u32;
 
 pub fn is_bind(payload: &[u8]) -> bool
     ensures { λ r. ⌜ r ≡ isBind (now (payload .entry)) ⌝ }
@@ -36,7 +37,7 @@ pub fn is_report_write(payload: &[u8]) -> bool
     }
     let at = list_at(numbers::le4(payload, 4));
     let errors = numbers::le4(payload, at);
-    if MOST_ERRORS < errors {
+    if LONGEST_LIST < errors {
         return false;
     }
     payload.len() == at + 4 + ERROR_SIZE * (errors as usize)
