@@ -1,14 +1,14 @@
 // The forms of the payloads, by kind of case.
 use base::STORE_SIZE;
 
-// A length of a store as it stands in a case.
-const LARGEST_LENGTH: u32 = STORE_SIZE as u32;
+// The length of a whole store, as a case gives a length of it or a place in it.
+const WHOLE_STORE: u32 = STORE_SIZE as u32;
 
 fn is_set_byte(payload: &[u8]) -> bool {
     if payload.len() != 5 {
         return false;
     }
-    numbers::le4(payload, 0) < LARGEST_LENGTH
+    numbers::le4(payload, 0) < WHOLE_STORE
 }
 
 fn is_set_segment(payload: &[u8]) -> bool {
@@ -32,7 +32,7 @@ fn is_lend(payload: &[u8]) -> bool {
     if payload.len() != 4 {
         return false;
     }
-    numbers::le4(payload, 0) <= LARGEST_LENGTH
+    numbers::le4(payload, 0) <= WHOLE_STORE
 }
 
 // No payload has the form of an unknown kind.

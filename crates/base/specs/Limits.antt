@@ -45,7 +45,7 @@ deviceIdSize = 16
 abbrev pub stateidSize : ℕ
 stateidSize = 16
 
--- A device body has "at most 2,048 bytes".
+-- A device body: "At most 2,048 bytes".
 abbrev pub longestDeviceBody : ℕ
 longestDeviceBody = 2048
 
@@ -88,10 +88,11 @@ slotHeadSize = 6
 abbrev pub mostReports : ℕ
 mostReports = 8
 
--- "error count (1 to 16)", of one report, and of all reports together
+-- "error count (1 to 16)", of one report
 abbrev pub mostErrors : ℕ
 mostErrors = 16
 
+-- the errors of all reports together
 abbrev pub mostErrorsInAll : ℕ
 mostErrorsInAll = mostReports * mostErrors
 

@@ -38,7 +38,7 @@ pub const DEVICE_ID_SIZE: usize = 16;
 // "stateid (16: a 4-byte seqid and 12 more)"
 pub const STATEID_SIZE: usize = 16;
 
-// A device body has "at most 2,048 bytes".
+// A device body: "At most 2,048 bytes".
 pub const LONGEST_DEVICE_BODY: usize = 2048;
 
 // "address count (1 to 8)"
@@ -78,8 +78,10 @@ pub const MOST_REPORTS: u32 = 8;
 
 pub const REPORT_PLACES: usize = MOST_REPORTS as usize;
 
-// "error count (1 to 16)", of one report, and of all reports together
+// "error count (1 to 16)", of one report
 pub const MOST_ERRORS: u32 = 16;
+
+// The errors of all reports together.
 
 pub const MOST_ERRORS_IN_ALL: usize = REPORT_PLACES * MOST_ERRORS as usize;
 

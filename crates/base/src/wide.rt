@@ -1,4 +1,4 @@
-// Numbers of fewer bits as 32 bits: what a place of an array holds is in its limits, and the limit is said with it.
+// Numbers of fewer bits as 32 bits. Of an element of an array a proof knows no limit; the contract says it.
 ghost use mathlib.Core.Path.{_≡_};
 ghost use Prim.Native.Nat.{_<_};
 

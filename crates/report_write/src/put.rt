@@ -9,7 +9,8 @@ ghost use lib.ListN.{length, take};
 ghost use lib.Seq.{sets};
 ghost use Rattle.base.specs.Limits.{errorSize, mostReports, reportHeadSize, stateidSize};
 ghost use Rattle.buffers.specs.Buffers.{stored};
-ghost use Rattle.report_write.specs.Writing.{counts, errorBytes, errorsBytes, headBytes, recordsAt, reportsBytes};
+ghost use Rattle.report_write.specs.Writing.{counts, errorBytes, errorsBytes, headBytes};
+ghost use Rattle.report_write.specs.Writing.{recordsAt, reportsBytes};
 
 // One wire record: the device id, which has 16 bytes where it is one, then status and operation. Where it does not fit, the buffer stays as it was.
 pub fn put_error(buf: &mut [u8], at: usize, device: &[u8], status: u32, operation: u32)

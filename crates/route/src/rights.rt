@@ -88,7 +88,7 @@ pub(crate) fn slot_asked(h: GrantAnswer) -> SlotNumber
     }
 }
 
-// ".. or RW granted under a body without flag 4"
+// ".. or RW granted under a body without flag 4": whether the flags of its body keep a grant from serving.
 pub(crate) fn is_barred(write: bool, iomode: Iomode, flags: u32) -> bool
     ensures { λ r. ⌜ r ≡ isBarred write iomode flags ⌝ }
 {

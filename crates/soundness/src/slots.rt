@@ -75,13 +75,13 @@ fn is_filled(slot: &[u8], answer: LayoutAnswer) -> bool
 }
 
 // `named` says of each slot whether a segment names it.
-pub(crate) fn judge_slots(named: [bool; SLOT_PLACES], store: &[u8], wanted: SlotNumber) -> Judged
+pub(crate) fn judge_slots(named: [bool; SLOT_PLACES], store: &[u8], asked: SlotNumber) -> Judged
     ensures { λ r. ⌜ ((t : Table) → named ≡ namedSlots t
         → (r .sound ≡ slotsSound t (now (store .entry)) slotCount 0)
         × (r .sound ≡ true
         → (answerOfLayout (r .read .answer) (r .read .starts)
-        ≡ layoutNamed t (now (store .entry)) (wanted .0) slotCount)
-        × (r .read .starts ≡ startsIn (layoutNamed t (now (store .entry)) (wanted .0) slotCount))
+        ≡ layoutNamed t (now (store .entry)) (asked .0) slotCount)
+        × (r .read .starts ≡ startsIn (layoutNamed t (now (store .entry)) (asked .0) slotCount))
         × (r .named ≡ namedSlots t))) ⌝ }
 {
     let none = unsound();
@@ -96,7 +96,7 @@ pub(crate) fn judge_slots(named: [bool; SLOT_PLACES], store: &[u8], wanted: Slot
             if !is_filled(slot, a) {
                 return none;
             }
-            if i == wanted.0 {
+            if i == asked.0 {
                 read = l;
             }
         } else {

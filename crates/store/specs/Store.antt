@@ -3,7 +3,7 @@ use Prim.Native.Nat.{ℕ, _+_, _-_, _*_}
 use mathlib.Core.List.{List, [], _∷_, _++_}
 use lib.ListN.{length, replicate}
 use lib.Dec.{leb}
-use Rattle.base.specs.Limits.{longestBody, slotHeadSize, slotSize, storeSize}
+use Rattle.base.specs.Limits.{slotHeadSize, slotSize, storeSize}
 use Rattle.base.specs.Answer.{pick}
 use Rattle.buffers.specs.Buffers.{stored}
 use Rattle.numbers.specs.Numbers.{bytesFrom, leAt, leBytes}
@@ -19,7 +19,7 @@ pub data Slot : Type 0 where
 -- "length (4 bytes, little-endian), kind (2 bytes, little-endian, value 4), body, zeros to the end. A slot that no segment names is all zeros."
 unfoldable pub slotBytes : Slot → List ℕ
 slotBytes empty = replicate slotSize 0
-slotBytes (holds b) = leBytes 4 (length b) ++ (leBytes 2 4 ++ (b ++ replicate (longestBody - length b) 0))
+slotBytes (holds b) = leBytes 4 (length b) ++ (leBytes 2 4 ++ (b ++ replicate (slotSize - slotHeadSize - length b) 0))
 
 -- "a zeroed shelf"
 abbrev pub zeroStore : List ℕ

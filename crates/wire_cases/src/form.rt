@@ -3,8 +3,10 @@ use base::ERROR_SIZE;
 use base::MOST_ERRORS_IN_ALL;
 use base::MOST_REPORTS;
 use base::REPORT_HEAD_SIZE;
-ghost use Prim.Native.Nat.{_≤_};
+use base::REPORT_PLACES;
+ghost use Prim.Native.Nat.{_+_, _*_, _≤_};
 ghost use mathlib.Core.Path.{_≡_};
+ghost use Rattle.base.specs.Limits.{mostReports, reportHeadSize};
 ghost use Rattle.wire_cases.specs.Forms.{isBind, isReportWrite, listAt};
 
 // The longest output of a report-write.
@@ -19,12 +21,15 @@ pub fn is_bind(payload: &[u8]) -> bool
     32 + numbers::le4(payload, 28) as usize <= payload.len()
 }
 
+// Where it stands behind as many reports as there can be.
+const LAST_LIST: usize = 8 + REPORT_HEAD_SIZE * REPORT_PLACES;
+
 // Where the list length of a report-write stands.
 pub(crate) fn list_at(count: u32) -> usize
-    ensures { λ r. ⌜ (r ≡ listAt count) × (r ≤ 296) ⌝ }
+    ensures { λ r. ⌜ (r ≡ listAt count) × (r ≤ 8 + reportHeadSize * mostReports) ⌝ }
 {
     if MOST_REPORTS < count {
-        return 296;
+        return LAST_LIST;
     }
     8 + REPORT_HEAD_SIZE * (count as usize)
 }

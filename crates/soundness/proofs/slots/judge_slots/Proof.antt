@@ -1,4 +1,4 @@
--- `soundness::slots::judge_slots` meets its contract. The loop's invariant: the slots passed are sound, so what is left decides, and the wanted one was
+-- `soundness::slots::judge_slots` meets its contract. The loop's invariant: the slots passed are sound, so what is left decides, and the asked one was
 -- read if it was among them. The measure is how many are left.
 use Prim.Native.Nat.{ℕ, _+_, _-_, _≤_}
 use Rattle.layout.specs.Answers.{answerOfLayout, startsIn}
@@ -22,14 +22,14 @@ use Rattle.soundness.proofs.slots.judge_slots.Statement.{statement}
 use Rattle.soundness.proofs.slots.judge_slots.Tie as tie
 
 abbrev Inv-loop : tie.InvT-loop
-Inv-loop store wanted named none read₀ i₀ read i =
+Inv-loop store asked named none read₀ i₀ read i =
     (i ≤ 8) × ((t : Table) → named ≡ namedSlots t
     → (slotsSound t store 8 0 ≡ slotsSound t store (8 - i) i)
-    × (answerOfLayout (read .answer) (read .starts) ≡ layoutNamed t store (wanted .0) i)
-    × (read .starts ≡ startsIn (layoutNamed t store (wanted .0) i)))
+    × (answerOfLayout (read .answer) (read .starts) ≡ layoutNamed t store (asked .0) i)
+    × (read .starts ≡ startsIn (layoutNamed t store (asked .0) i)))
 
 abbrev μ-loop : tie.MeasureT-loop
-μ-loop store wanted named none read₀ i₀ read i = 8 - i
+μ-loop store asked named none read₀ i₀ read i = 8 - i
 
 unsound-requires : tie.Need-unsound-requires Inv-loop μ-loop
 unsound-requires c κs = search needs
@@ -38,7 +38,7 @@ loop-holds : tie.Need-loop-holds Inv-loop μ-loop
 loop-holds c = (
   omega arith,
   λ t e.
-      let n = read-none t (now (c .before .before .before .args .store)) (c .before .before .before .args .wanted .0) in
+      let n = read-none t (now (c .before .before .before .args .store)) (c .before .before .before .args .asked .0) in
       (refl, c .before .unsound .ensures .1 ∙ n, c .before .unsound .ensures .2 ∙ none-started _ n),
 )
 
@@ -94,7 +94,7 @@ unfolding slotSound
 loop-again c =
     let l = c .before .before .before .loop in
     let store = now (c .before .before .before .before .before .before .before .args .store) in
-    let wanted = c .before .before .before .before .before .before .before .args .wanted in (
+    let asked = c .before .before .before .before .before .before .before .args .asked in (
       omega arith,
       λ t e.
           let n = named-here t _ (l .i) e (omega arith) in
@@ -111,14 +111,14 @@ loop-again c =
           (λ w.
           let q = w .3 .ensures (w .2 .result .starts) (w .2 .ensures .0 ∙ ap layoutBody (w .1 .ensures)) in
           let s : slotSound (isNamed t (l .i)) (slotAt store (l .i)) ≡ true = rw (n ∙ w .0 .taken, ← (c .before .slot-bytes .ensures)) (sym q ∙ not-false _ (w .4 .left)) in
-          let r = read-elsewhere t store (wanted .0) (l .i) (w .6 .left) in (
+          let r = read-elsewhere t store (asked .0) (l .i) (w .6 .left) in (
             l .inv .1 t e .0 ∙ slot-passed t store 8 (l .i) (omega arith) s,
             rw (w .7) (l .inv .1 t e .1 ∙ r),
             rw (w .7) (l .inv .1 t e .2 ∙ ap startsIn r),
           ))
           (λ w.
           let s : slotSound (isNamed t (l .i)) (slotAt store (l .i)) ≡ true = rw (n ∙ w .0 .left, ← (c .before .slot-bytes .ensures)) (sym (w .1 .ensures) ∙ not-false _ (w .2 .left)) in
-          let r = read-unnamed t store (wanted .0) (l .i) (n ∙ w .0 .left) in (
+          let r = read-unnamed t store (asked .0) (l .i) (n ∙ w .0 .left) in (
             l .inv .1 t e .0 ∙ slot-passed t store 8 (l .i) (omega arith) s,
             rw (w .3) (l .inv .1 t e .1 ∙ r),
             rw (w .3) (l .inv .1 t e .2 ∙ ap startsIn r),
@@ -132,7 +132,7 @@ returns-3 c =
     let z : l .i ≡ 8 = omega arith in
     let a = c .before .before .before .before .before .args in
     λ t e.
-    let r = ap (layoutNamed t (now (a .store)) (a .wanted .0)) z in
+    let r = ap (layoutNamed t (now (a .store)) (a .asked .0)) z in
     (sym (l .inv .1 t e .0 ∙ slots-none t (now (a .store)) 8 (l .i) (omega arith)), λ k. (l .inv .1 t e .1 ∙ r, l .inv .1 t e .2 ∙ ap startsIn r, e))
 
 pub judge-slots-spec : {M : Type 1} → statement M
