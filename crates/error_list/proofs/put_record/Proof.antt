@@ -23,10 +23,12 @@ same-length c = search needs
 
 returns : tie.Need-returns
 returns c =
-    let k : length (c .before .before .before .before .before .before .before .args .error .device) ≡ 16 = search needs in
-    let st : c .before .before .before .before .before .before .before .args .error .status < 256 ^ 4 = search needs in
-    let op : c .before .before .before .before .before .before .before .args .error .operation < 256 ^ 4 = search needs in
-    rw (c .before .before .put-error .ensures) (record-stored (now (c .before .before .before .before .before .before .before .args .buf)) (c .before .before .before .before .before .before .before .args .i) (recordOf (c .before .before .before .before .before .before .before .args .error)) (k, st, op) (c .before .before .before .before .before .before .before .pre))
+    let start = c .before .before .before .before .before .before .before in
+    let k : length (start .args .error .device) ≡ 16 = search needs in
+    let st : start .args .error .status < 256 ^ 4 = search needs in
+    let op : start .args .error .operation < 256 ^ 4 = search needs in
+    rw (c .before .before .put-error .ensures)
+    (record-stored (now (start .args .buf)) (start .args .i) (recordOf (start .args .error)) (k, st, op) (start .pre))
 
 pub put-record-spec : {M : Type 1} → statement M
 put-record-spec =

@@ -1,4 +1,4 @@
--- `error_list::records_used` meets its contract.
+-- `error_list::records_used` meets its contract: the smaller of the two, by arithmetic.
 use native.Mathlib.Omega.{arith}
 use Rattle.error_list.proofs.records_used.Statement.{statement}
 use Rattle.error_list.proofs.records_used.Tie as tie

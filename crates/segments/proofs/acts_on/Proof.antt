@@ -1,4 +1,4 @@
--- `segments::acts_on` meets its contract.
+-- `segments::acts_on` meets its contract: one way out for each iomode.
 use Rattle.base.specs.Answer.{pick}
 use Rattle.base.specs.declared.iomode.Iomode.the-variants.{Read, ReadWrite}
 use Rattle.segments.specs.Segments.{READ, RW, actsOn}

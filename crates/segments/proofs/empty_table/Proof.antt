@@ -1,3 +1,4 @@
+-- `segments::empty_table` meets its contract: both sides compute to the same table.
 use Rattle.base.specs.Lists.{padded}
 use Rattle.segments.specs.Segments.{emptyTable, inPlaces}
 use mathlib.Core.Path.{refl}

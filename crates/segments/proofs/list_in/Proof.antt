@@ -1,4 +1,4 @@
--- `segments::list_in` meets its contract.
+-- `segments::list_in` meets its contract: the number's test, both ways.
 use Rattle.base.specs.Answer.{pick}
 use borrow.Author.Tests.{eq-eqb, ne-eqb}
 use Rattle.segments.proofs.list_in.Statement.{statement}

@@ -1,4 +1,4 @@
--- `segments::same_right` meets its contract.
+-- `segments::same_right` meets its contract: kinds and slots are compared, each from its callee.
 use borrow.Author.Needs.{needs}
 use Rattle.segments.proofs.same_right.Statement.{statement}
 use Rattle.segments.proofs.same_right.Tie as tie

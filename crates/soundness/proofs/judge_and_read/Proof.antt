@@ -50,10 +50,19 @@ unsound-requires-3 c κs = search needs
 returns-3 : tie.Need-returns-3
 unfolding sound namedJudged
 returns-3 c =
-    let a = c .before .before .before .before .before .before .before .before .before .args in
-    let s : sound (a .t) (now (a .store)) ≡ false = rw (sym (c .before .before .before .before .before .before .lists-sound .ensures) ∙ not-false _ (c .before .before .before .before .before .if2 .left), sym (c .before .before .before .judge-slots .ensures (a .t) (c .before .before .before .before .named-slots .ensures) .0) ∙ not-true _ (c .before .if3 .taken)) in
-    let j = sym (judged-unsound (a .t) (now (a .store)) (a .slot .0) s) in
-    (c .unsound3 .ensures .0 ∙ sym s, c .unsound3 .ensures .1 ∙ j, c .unsound3 .ensures .2 ∙ none-started _ j, c .unsound3 .ensures .3 ∙ sym (pick-false _ (namedSlots (a .t)) _ s))
+    let after-if2 = c .before .before .before .before .before in
+    let a = after-if2 .before .before .before .before .args in
+    let s : sound (a .t) (now (a .store)) ≡ false = rw (
+      sym (after-if2 .before .lists-sound .ensures) ∙ not-false _ (after-if2 .if2 .left),
+      sym (c .before .before .before .judge-slots .ensures (a .t)
+          (c .before .before .before .before .named-slots .ensures) .0) ∙ not-true _ (c .before .if3 .taken),
+    ) in
+    let j = sym (judged-unsound (a .t) (now (a .store)) (a .slot .0) s) in (
+      c .unsound3 .ensures .0 ∙ sym s,
+      c .unsound3 .ensures .1 ∙ j,
+      c .unsound3 .ensures .2 ∙ none-started _ j,
+      c .unsound3 .ensures .3 ∙ sym (pick-false _ (namedSlots (a .t)) _ s),
+    )
 
 no-two-alike-requires : tie.Need-no-two-alike-requires
 no-two-alike-requires c κs = search needs
@@ -64,19 +73,39 @@ unsound-requires-4 c κs = search needs
 returns-4 : tie.Need-returns-4
 unfolding sound namedJudged
 returns-4 c =
-    let a = c .before .before .before .before .before .before .before .before .before .before .before .args in
-    let s : sound (a .t) (now (a .store)) ≡ false = rw (sym (c .before .before .before .before .before .before .before .before .lists-sound .ensures) ∙ not-false _ (c .before .before .before .before .before .before .before .if2 .left), sym (c .before .before .before .before .before .judge-slots .ensures (a .t) (c .before .before .before .before .before .before .named-slots .ensures) .0) ∙ not-false _ (c .before .before .before .if3 .left), sym (c .before .before .no-two-alike .ensures (a .t) (c .before .before .before .before .before .before .named-slots .ensures)) ∙ not-true _ (c .before .if4 .taken)) in
-    let j = sym (judged-unsound (a .t) (now (a .store)) (a .slot .0) s) in
-    (c .unsound4 .ensures .0 ∙ sym s, c .unsound4 .ensures .1 ∙ j, c .unsound4 .ensures .2 ∙ none-started _ j, c .unsound4 .ensures .3 ∙ sym (pick-false _ (namedSlots (a .t)) _ s))
+    let after-if3 = c .before .before .before in
+    let after-if2 = after-if3 .before .before .before .before in
+    let a = after-if2 .before .before .before .before .args in
+    let s : sound (a .t) (now (a .store)) ≡ false = rw (
+      sym (after-if2 .before .lists-sound .ensures) ∙ not-false _ (after-if2 .if2 .left),
+      sym (after-if3 .before .before .judge-slots .ensures (a .t)
+          (after-if3 .before .before .before .named-slots .ensures) .0) ∙ not-false _ (after-if3 .if3 .left),
+      sym (c .before .before .no-two-alike .ensures (a .t) (after-if3 .before .before .before .named-slots .ensures))
+          ∙ not-true _ (c .before .if4 .taken),
+    ) in
+    let j = sym (judged-unsound (a .t) (now (a .store)) (a .slot .0) s) in (
+      c .unsound4 .ensures .0 ∙ sym s,
+      c .unsound4 .ensures .1 ∙ j,
+      c .unsound4 .ensures .2 ∙ none-started _ j,
+      c .unsound4 .ensures .3 ∙ sym (pick-false _ (namedSlots (a .t)) _ s),
+    )
 
 returns-5 : tie.Need-returns-5
 unfolding sound namedJudged
 returns-5 c =
-    let a = c .before .before .before .before .before .before .before .before .before .before .args in
+    let after-judge-slots = c .before .before .before .before in
+    let after-if2 = after-judge-slots .before .before in
+    let a = after-if2 .before .before .before .before .args in
     let k = not-false _ (c .before .before .if3 .left) in
-    let s : sound (a .t) (now (a .store)) ≡ true = rw (sym (c .before .before .before .before .before .before .before .lists-sound .ensures) ∙ not-false _ (c .before .before .before .before .before .before .if2 .left), sym (c .before .before .before .before .judge-slots .ensures (a .t) (c .before .before .before .before .before .named-slots .ensures) .0) ∙ k, sym (c .before .no-two-alike .ensures (a .t) (c .before .before .before .before .before .named-slots .ensures)) ∙ not-false _ (c .if4 .left), eq-eqb _ _ (c .before .before .before .before .before .before .before .before .if1 .left)) in
+    let s : sound (a .t) (now (a .store)) ≡ true = rw (
+      sym (after-if2 .before .lists-sound .ensures) ∙ not-false _ (after-if2 .if2 .left),
+      sym (after-judge-slots .judge-slots .ensures (a .t) (after-judge-slots .before .named-slots .ensures) .0) ∙ k,
+      sym (c .before .no-two-alike .ensures (a .t) (after-judge-slots .before .named-slots .ensures))
+          ∙ not-false _ (c .if4 .left),
+      eq-eqb _ _ (after-if2 .before .before .if1 .left),
+    ) in
     let j = sym (judged-sound (a .t) (now (a .store)) (a .slot .0) s) in
-    let r = c .before .before .before .before .judge-slots .ensures (a .t) (c .before .before .before .before .before .named-slots .ensures) .1 k in
+    let r = after-judge-slots .judge-slots .ensures (a .t) (after-judge-slots .before .named-slots .ensures) .1 k in
     (k ∙ sym s, r .0 ∙ j, r .1 ∙ ap startsIn j, r .2 ∙ sym (pick-true _ (namedSlots (a .t)) _ s))
 
 pub judge-and-read-spec : {M : Type 1} → statement M

@@ -45,19 +45,63 @@ why-device-requires c κs = search needs
 
 returns-2 : tie.Need-returns-2
 unfolding boundTo given
-returns-2 c = rw (came (λ (x : LayoutAnswer). answerOfLayout x (c .before .before .before .before .before .before .before .read-layout .result .starts)) (c .before .before .before .before .before .before .before .read-layout .ensures .0) (c .before .before .before .before .before .a .given .1), handed-answer-from (λ (x : DeviceAnswer). deviceOf x [] []) (λ (x : DeviceAnswer). deviceOf x (c .before .before .before .read-device .result .addresses) (c .before .before .before .read-device .result .versions)) (c .before .before .before .read-device .ensures .0) (c .before .enum-told2 .given .1) (c .why-device .ensures) refl refl)
+returns-2 c =
+    let after-a = c .before .before .before .before .before in
+    rw (
+      came (λ (x : LayoutAnswer). answerOfLayout x (after-a .before .before .read-layout .result .starts))
+          (after-a .before .before .read-layout .ensures .0) (after-a .a .given .1),
+      handed-answer-from (λ (x : DeviceAnswer). deviceOf x [] [])
+          (λ (x : DeviceAnswer). deviceOf x (c .before .before .before .read-device .result .addresses)
+          (c .before .before .before .read-device .result .versions))
+          (c .before .before .before .read-device .ensures .0) (c .before .enum-told2 .given .1)
+          (c .why-device .ensures) refl refl,
+    )
 
 returns-3 : tie.Need-returns-3
 unfolding boundTo given must pick
-returns-3 c = rw (came (λ (x : LayoutAnswer). answerOfLayout x (c .before .before .before .before .before .before .before .before .before .before .read-layout .result .starts)) (c .before .before .before .before .before .before .before .before .before .before .read-layout .ensures .0) (c .before .before .before .before .before .before .before .before .a .given .1), came (λ (x : DeviceAnswer). deviceOf x (c .before .before .before .before .before .before .read-device .result .addresses) (c .before .before .before .before .before .before .read-device .result .versions)) (c .before .before .before .before .before .before .read-device .ensures .0) (c .before .before .before .before .b .given .1), le-ltb _ _ (c .if1 .taken))
+returns-3 c =
+    let after-b = c .before .before .before .before in
+    let after-a = after-b .before .before .before .before in
+    rw (
+      came (λ (x : LayoutAnswer). answerOfLayout x (after-a .before .before .read-layout .result .starts))
+          (after-a .before .before .read-layout .ensures .0) (after-a .a .given .1),
+      came (λ (x : DeviceAnswer). deviceOf x (after-b .before .before .read-device .result .addresses)
+          (after-b .before .before .read-device .result .versions)) (after-b .before .before .read-device .ensures .0)
+          (after-b .b .given .1),
+      le-ltb _ _ (c .if1 .taken),
+    )
 
 returns-4 : tie.Need-returns-4
 unfolding boundTo given must pick
-returns-4 c = rw (came (λ (x : LayoutAnswer). answerOfLayout x (c .before .before .before .before .before .before .before .before .before .before .before .before .before .read-layout .result .starts)) (c .before .before .before .before .before .before .before .before .before .before .before .before .before .read-layout .ensures .0) (c .before .before .before .before .before .before .before .before .before .before .before .a .given .1), came (λ (x : DeviceAnswer). deviceOf x (c .before .before .before .before .before .before .before .before .before .read-device .result .addresses) (c .before .before .before .before .before .before .before .before .before .read-device .result .versions)) (c .before .before .before .before .before .before .before .before .before .read-device .ensures .0) (c .before .before .before .before .before .before .before .b .given .1), lt-ltb _ _ (c .before .before .before .if1 .left), le-ltb _ _ (c .if2 .taken))
+returns-4 c =
+    let after-b = c .before .before .before .before .before .before .before in
+    let after-a = after-b .before .before .before .before in
+    rw (
+      came (λ (x : LayoutAnswer). answerOfLayout x (after-a .before .before .read-layout .result .starts))
+          (after-a .before .before .read-layout .ensures .0) (after-a .a .given .1),
+      came (λ (x : DeviceAnswer). deviceOf x (after-b .before .before .read-device .result .addresses)
+          (after-b .before .before .read-device .result .versions)) (after-b .before .before .read-device .ensures .0)
+          (after-b .b .given .1),
+      lt-ltb _ _ (c .before .before .before .if1 .left),
+      le-ltb _ _ (c .if2 .taken),
+    )
 
 returns-5 : tie.Need-returns-5
 unfolding boundTo given must pick
-returns-5 c = rw (came (λ (x : LayoutAnswer). answerOfLayout x (c .before .before .before .before .before .before .before .before .before .before .before .before .before .before .read-layout .result .starts)) (c .before .before .before .before .before .before .before .before .before .before .before .before .before .before .read-layout .ensures .0) (c .before .before .before .before .before .before .before .before .before .before .before .before .a .given .1), came (λ (x : DeviceAnswer). deviceOf x (c .before .before .before .before .before .before .before .before .before .before .read-device .result .addresses) (c .before .before .before .before .before .before .before .before .before .before .read-device .result .versions)) (c .before .before .before .before .before .before .before .before .before .before .read-device .ensures .0) (c .before .before .before .before .before .before .before .before .b .given .1), lt-ltb _ _ (c .before .before .before .before .if1 .left), lt-ltb _ _ (c .before .if2 .left), lt-leb _ _ (c .if3 .taken))
+returns-5 c =
+    let after-if1 = c .before .before .before .before in
+    let after-b = after-if1 .before .before .before .before in
+    let after-a = after-b .before .before .before .before in
+    rw (
+      came (λ (x : LayoutAnswer). answerOfLayout x (after-a .before .before .read-layout .result .starts))
+          (after-a .before .before .read-layout .ensures .0) (after-a .a .given .1),
+      came (λ (x : DeviceAnswer). deviceOf x (after-b .before .before .read-device .result .addresses)
+          (after-b .before .before .read-device .result .versions)) (after-b .before .before .read-device .ensures .0)
+          (after-b .b .given .1),
+      lt-ltb _ _ (after-if1 .if1 .left),
+      lt-ltb _ _ (c .before .if2 .left),
+      lt-leb _ _ (c .if3 .taken),
+    )
 
 start-of-requires : tie.Need-start-of-requires
 start-of-requires c κs = search needs
@@ -66,11 +110,33 @@ cast-start : tie.Need-cast-start
 cast-start c = search needs
 
 bind-server-requires : tie.Need-bind-server-requires
-bind-server-requires c κs = let v = versions-read (now (c .before .before .before .before .before .before .before .before .before .before .before .before .before .before .before .before .before .before .before .before .args .device)) _ (came (λ (x : DeviceAnswer). deviceOf x (c .before .before .before .before .before .before .before .before .before .before .before .before .before .read-device .result .addresses) (c .before .before .before .before .before .before .before .before .before .before .before .before .before .read-device .result .versions)) (c .before .before .before .before .before .before .before .before .before .before .before .before .before .read-device .ensures .0) (c .before .before .before .before .before .before .before .before .before .before .before .b .given .1)) in v .high
+bind-server-requires c κs =
+    let after-b = c .before .before .before .before .before .before .before .before .before .before .before in
+    let after-read-device = after-b .before .before in
+    let start = after-read-device .before .before .before .before .before .before .before in
+    let v = versions-read (now (start .args .device)) _
+    (came (λ (x : DeviceAnswer). deviceOf x (after-read-device .read-device .result .addresses)
+    (after-read-device .read-device .result .versions)) (after-read-device .read-device .ensures .0)
+    (after-b .b .given .1)) in
+    v .high
 
 returns-6 : tie.Need-returns-6
 unfolding boundTo given must pick
-returns-6 c = rw (came (λ (x : LayoutAnswer). answerOfLayout x (c .before .before .before .before .before .before .before .before .before .before .before .before .before .before .before .before .before .before .read-layout .result .starts)) (c .before .before .before .before .before .before .before .before .before .before .before .before .before .before .before .before .before .before .read-layout .ensures .0) (c .before .before .before .before .before .before .before .before .before .before .before .before .before .before .before .before .a .given .1), came (λ (x : DeviceAnswer). deviceOf x (c .before .before .before .before .before .before .before .before .before .before .before .before .before .before .read-device .result .addresses) (c .before .before .before .before .before .before .before .before .before .before .before .before .before .before .read-device .result .versions)) (c .before .before .before .before .before .before .before .before .before .before .before .before .before .before .read-device .ensures .0) (c .before .before .before .before .before .before .before .before .before .before .before .before .b .given .1), lt-ltb _ _ (c .before .before .before .before .before .before .before .before .if1 .left), lt-ltb _ _ (c .before .before .before .before .before .if2 .left), le-leb _ _ (c .before .before .before .before .if3 .left), ← c .before .before .start-of .ensures) (c .bind-server .ensures)
+returns-6 c =
+    let after-if2 = c .before .before .before .before .before in
+    let after-b = after-if2 .before .before .before .before .before .before .before in
+    let after-a = after-b .before .before .before .before in
+    rw (
+      came (λ (x : LayoutAnswer). answerOfLayout x (after-a .before .before .read-layout .result .starts))
+          (after-a .before .before .read-layout .ensures .0) (after-a .a .given .1),
+      came (λ (x : DeviceAnswer). deviceOf x (after-b .before .before .read-device .result .addresses)
+          (after-b .before .before .read-device .result .versions)) (after-b .before .before .read-device .ensures .0)
+          (after-b .b .given .1),
+      lt-ltb _ _ (after-if2 .before .before .before .if1 .left),
+      lt-ltb _ _ (after-if2 .if2 .left),
+      le-leb _ _ (c .before .before .before .before .if3 .left),
+      ← c .before .before .start-of .ensures,
+    ) (c .bind-server .ensures)
 
 pub bind-spec : {M : Type 1} → statement M
 bind-spec =

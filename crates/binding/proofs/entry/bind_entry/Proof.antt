@@ -34,11 +34,24 @@ returns-2 c = rw (sym (c .before .before .before .before .before .stateid-fits .
 
 returns-3 : tie.Need-returns-3
 unfolding entryBound must pick given valueOf bound
-returns-3 c = rw (sym (c .before .before .before .before .before .before .stateid-fits .ensures) ∙ not-false _ (c .before .before .before .before .before .if1 .left), came resOfPart (c .before .before .before .before .read-handle .ensures) (c .before .before .h .given .1), c .if2 .taken)
+returns-3 c =
+    let after-if1 = c .before .before .before .before .before in
+    rw (
+      sym (after-if1 .before .stateid-fits .ensures) ∙ not-false _ (after-if1 .if1 .left),
+      came resOfPart (c .before .before .before .before .read-handle .ensures) (c .before .before .h .given .1),
+      c .if2 .taken,
+    )
 
 returns-4 : tie.Need-returns-4
 unfolding entryBound must pick given valueOf bound
-returns-4 c = rw (sym (c .before .before .before .before .before .before .before .before .stateid-fits .ensures) ∙ not-false _ (c .before .before .before .before .before .before .before .if1 .left), came resOfPart (c .before .before .before .before .before .before .read-handle .ensures) (c .before .before .before .before .h .given .1), c .before .before .if2 .left)
+returns-4 c =
+    let after-h = c .before .before .before .before in
+    rw (
+      sym (after-h .before .before .before .before .stateid-fits .ensures)
+          ∙ not-false _ (after-h .before .before .before .if1 .left),
+      came resOfPart (after-h .before .before .read-handle .ensures) (after-h .h .given .1),
+      c .before .before .if2 .left,
+    )
 
 pub bind-entry-spec : {M : Type 1} → statement M
 bind-entry-spec =

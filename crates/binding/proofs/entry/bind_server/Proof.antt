@@ -51,7 +51,15 @@ why-choice-requires c κs = search needs
 
 returns-3 : tie.Need-returns-3
 unfolding serverBound given valueOf must pick
-returns-3 c = rw ((came resOfServer (c .before .before .before .before .before .before .before .before .before .read-server .ensures) (c .before .before .before .before .before .before .before .r .given .1)), sym (c .before .before .before .before .before .server-matches .ensures) ∙ not-false _ (c .before .before .before .before .if1 .left), handed-answer answerOfChoice (c .before .before .before .choose .ensures) (c .before .enum-told2 .given .1) (c .why-choice .ensures) refl)
+returns-3 c =
+    let after-if1 = c .before .before .before .before in
+    let after-r = after-if1 .before .before .before in
+    rw (
+      (came resOfServer (after-r .before .before .read-server .ensures) (after-r .r .given .1)),
+      sym (after-if1 .before .server-matches .ensures) ∙ not-false _ (after-if1 .if1 .left),
+      handed-answer answerOfChoice (c .before .before .before .choose .ensures) (c .before .enum-told2 .given .1)
+          (c .why-choice .ensures) refl,
+    )
 
 cast-v : tie.Need-cast-v
 cast-v c = search needs
@@ -60,14 +68,31 @@ mul-v : tie.Need-mul-v
 mul-v c = search needs
 
 array-copy-out-v : tie.Need-array-copy-out-v
-array-copy-out-v c = let h = chosen-below (c .before .before .before .before .before .before .before .before .before .before .before .args .set) (c .before .before .before .before .before .before .before .before .before .before .before .args .count) (c .before .before .before .before .before .before .before .before .before .before .before .args .t3) _ (came answerOfChoice (c .before .before .before .choose .ensures) (c .before .e .given .1)) in omega (arith, h, c .before .before .before .before .before .before .before .before .before .before .before .pre)
+array-copy-out-v c =
+    let after-choose = c .before .before .before in
+    let start = after-choose .before .before .before .before .before .before .before .before in
+    let h = chosen-below (start .args .set) (start .args .count) (start .args .t3) _
+    (came answerOfChoice (after-choose .choose .ensures) (c .before .e .given .1)) in
+    omega (arith, h, start .pre)
 
 bind-entry-requires : tie.Need-bind-entry-requires
-bind-entry-requires c κs = let v = server-read (now (c .before .before .before .before .before .before .before .before .before .before .before .before .args .s)) (c .before .before .before .before .before .before .before .before .before .before .before .before .args .start) _ _ (came resOfServer (c .before .before .before .before .before .before .before .before .before .before .read-server .ensures) (c .before .before .before .before .before .before .before .before .r .given .1)) in omega (arith, v .stateid, v .inside)
+bind-entry-requires c κs =
+    let after-r = c .before .before .before .before .before .before .before .before in
+    let start = after-r .before .before .before .before in
+    let v = server-read (now (start .args .s)) (start .args .start) _ _
+    (came resOfServer (after-r .before .before .read-server .ensures) (after-r .r .given .1)) in
+    omega (arith, v .stateid, v .inside)
 
 returns-4 : tie.Need-returns-4
 unfolding serverBound given valueOf must pick
-returns-4 c = rw ((came resOfServer (c .before .before .before .before .before .before .before .before .before .before .before .read-server .ensures) (c .before .before .before .before .before .before .before .before .before .r .given .1)), sym (c .before .before .before .before .before .before .before .server-matches .ensures) ∙ not-false _ (c .before .before .before .before .before .before .if1 .left), came answerOfChoice (c .before .before .before .before .before .choose .ensures) (c .before .before .before .e .given .1)) (c .bind-entry .ensures)
+returns-4 c =
+    let after-choose = c .before .before .before .before .before in
+    let after-r = after-choose .before .before .before .before in
+    rw (
+      (came resOfServer (after-r .before .before .read-server .ensures) (after-r .r .given .1)),
+      sym (after-choose .before .before .server-matches .ensures) ∙ not-false _ (after-choose .before .if1 .left),
+      came answerOfChoice (after-choose .choose .ensures) (c .before .before .before .e .given .1),
+    ) (c .bind-entry .ensures)
 
 pub bind-server-spec : {M : Type 1} → statement M
 bind-server-spec =

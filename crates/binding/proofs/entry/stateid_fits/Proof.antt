@@ -37,9 +37,10 @@ same-requires c κs = search needs
 returns-3 : tie.Need-returns-3
 unfolding stateidFits
 returns-3 c =
-    let p = c .before .before .before .before .before .before .before .args .stateid in
+    let after-if2 = c .before .before .before in
+    let p = after-if2 .before .before .before .before .args .stateid in
     let e : p + 16 - p ≡ 16 = omega arith in
-    rw (eq-eqb _ _ (c .before .before .before .before .if1 .left), c .before .before .before .if2 .left) (rw e at (c .same .ensures))
+    rw (eq-eqb _ _ (after-if2 .before .if1 .left), after-if2 .if2 .left) (rw e at (c .same .ensures))
 
 pub stateid-fits-spec : {M : Type 1} → statement M
 stateid-fits-spec =

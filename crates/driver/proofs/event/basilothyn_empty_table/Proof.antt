@@ -1,3 +1,4 @@
+-- `driver::event::basilothyn_empty_table` meets its contract: the record of what `empty_table` gives.
 use Rattle.record.specs.Records.{recordOf}
 use borrow.Author.Needs.{needs}
 use mathlib.Core.Path.{ap, _∙_}

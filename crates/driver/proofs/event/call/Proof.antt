@@ -13,7 +13,10 @@ unsound-requires : tie.Need-unsound-requires
 unsound-requires c κs = search needs
 
 returns : tie.Need-returns
-returns c = not-called _ _ (c .before .before .before .table-of .ensures) (now (c .before .before .before .before .before .before .args .store)) _ _ (not-true _ (c .before .if1 .taken)) (c .unsound .ensures)
+returns c =
+    let start = c .before .before .before .before .before .before in
+    not-called _ _ (c .before .before .before .table-of .ensures) (now (start .args .store)) _ _
+    (not-true _ (c .before .if1 .taken)) (c .unsound .ensures)
 
 apply-requires : tie.Need-apply-requires
 apply-requires c κs = search needs
@@ -26,8 +29,10 @@ same-length c = search needs
 
 returns-2 : tie.Need-returns-2
 returns-2 c =
-    was-called _ _ (c .before .before .before .before .before .before .before .before .table-of .ensures) (now (c .before .before .before .before .before .before .before .before .before .before .before .args .store)) _ _ (not-false _ (c .before .before .before .before .before .before .if1 .left)) (c .before .before .before .apply .result) _ (c .before .before .before .apply .ensures)
-    (c .result-of .ensures)
+    let after-if1 = c .before .before .before .before .before .before in
+    was-called _ _ (after-if1 .before .before .table-of .ensures)
+    (now (after-if1 .before .before .before .before .before .args .store)) _ _ (not-false _ (after-if1 .if1 .left))
+    (c .before .before .before .apply .result) _ (c .before .before .before .apply .ensures) (c .result-of .ensures)
 
 pub call-spec : {M : Type 1} → statement M
 call-spec =

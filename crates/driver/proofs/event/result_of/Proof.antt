@@ -1,3 +1,4 @@
+-- `driver::event::result_of` meets its contract: the verdict's number and the table's record, each from its callee.
 use borrow.Author.Needs.{needs}
 use Rattle.driver.proofs.event.result_of.Statement.{statement}
 use Rattle.driver.proofs.event.result_of.Tie as tie

@@ -1,3 +1,4 @@
+-- `driver::event::unsound` meets its contract: the number of `Unsound` is 20.
 use borrow.Author.Needs.{needs}
 use Rattle.driver.proofs.event.unsound.Statement.{statement}
 use Rattle.driver.proofs.event.unsound.Tie as tie

@@ -1,3 +1,4 @@
+-- `driver::event::verdict_number` meets its contract: 0 where accepted, else what `base::number` gives.
 use borrow.Author.Needs.{needs}
 use Rattle.driver.proofs.event.verdict_number.Statement.{statement}
 use Rattle.driver.proofs.event.verdict_number.Tie as tie

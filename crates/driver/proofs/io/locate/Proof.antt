@@ -22,7 +22,12 @@ result-of-requires : tie.Need-result-of-requires
 result-of-requires c κs = search needs
 
 returns-2 : tie.Need-returns-2
-returns-2 c = was-routed _ _ (c .before .before .before .before .before .table-of .ensures) (now (c .before .before .before .before .before .before .before .args .store)) (c .before .before .before .before .before .before .before .args .write) (c .before .before .before .before .before .before .before .args .offset) (c .before .before .before .before .before .before .before .args .len) _ (not-false _ (c .before .before .before .if1 .left)) (c .before .locate .result) (c .before .locate .ensures) (c .result-of .ensures)
+returns-2 c =
+    let after-if1 = c .before .before .before in
+    let start = after-if1 .before .before .before .before in
+    was-routed _ _ (after-if1 .before .before .table-of .ensures) (now (start .args .store)) (start .args .write)
+    (start .args .offset) (start .args .len) _ (not-false _ (after-if1 .if1 .left)) (c .before .locate .result)
+    (c .before .locate .ensures) (c .result-of .ensures)
 
 pub locate-spec : {M : Type 1} → statement M
 locate-spec =

@@ -1,3 +1,4 @@
+-- `driver::io::refused` meets its contract: the refusal's number, and 0 for all else.
 use Rattle.driver.specs.Calls.{locateResult}
 use borrow.Author.Needs.{needs}
 use Rattle.driver.proofs.io.refused.Statement.{statement}

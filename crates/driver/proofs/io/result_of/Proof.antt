@@ -1,3 +1,4 @@
+-- `driver::io::result_of` meets its contract: the refusal, or the place with its iomode's number.
 use Rattle.driver.specs.Calls.{locateResult}
 use borrow.Author.Needs.{needs}
 use Rattle.driver.proofs.io.result_of.Statement.{statement}

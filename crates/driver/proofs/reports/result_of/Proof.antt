@@ -1,4 +1,4 @@
--- `driver::reports::result_of` meets its contract.
+-- `driver::reports::result_of` meets its contract: the length written, or the refusal's number.
 use Rattle.driver.specs.ReportCalls.{writeResult}
 use borrow.Author.Needs.{needs}
 use Rattle.driver.proofs.reports.result_of.Statement.{statement}

@@ -1,3 +1,4 @@
+-- `driver::wire::basilothyn_bind` meets its contract: what was bound, as a result.
 use Rattle.wire_record.specs.Bindings.{bindResult}
 use borrow.Author.Needs.{needs}
 use mathlib.Core.Path.{ap, _∙_}

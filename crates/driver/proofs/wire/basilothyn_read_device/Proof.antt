@@ -1,3 +1,4 @@
+-- `driver::wire::basilothyn_read_device` meets its contract: what was read, as a result.
 use Rattle.wire_record.specs.Devices.{deviceResult}
 use borrow.Author.Needs.{needs}
 use mathlib.Core.Path.{ap, _∙_}

@@ -1,3 +1,4 @@
+-- `driver::wire::basilothyn_read_layout4` meets its contract: what was read, as a result.
 use Rattle.wire_record.specs.Layouts.{layout4Result}
 use borrow.Author.Needs.{needs}
 use mathlib.Core.Path.{ap, _∙_}

@@ -1,3 +1,4 @@
+-- `driver::wire::basilothyn_read_reports` meets its contract: what was read, with its arrays, as a result.
 use Rattle.driver.proofs.ReportLaws.{reports-are}
 use Rattle.wire_record.specs.Reports.{reportsResult}
 use borrow.Author.Needs.{needs}

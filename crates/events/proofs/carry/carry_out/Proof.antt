@@ -27,9 +27,13 @@ refused-requires c κs = search needs
 returns : tie.Need-returns
 unfolding pick
 returns c =
-    let a = c .before .before .before .before .before .before .before .before .before .before .args in
-    let over = read-over _ _ _ _ _ (a .t) _ _ (c .before .before .before .before .before .before .before .change-of .ensures) (c .before .before .before .before .edit-list .ensures) (c .before .before .before .edit-list2 .ensures) (not-true _ (c .before .if1 .taken)) in
-    refused-left _ (now (a .store)) _ TooManySegments (c .refused .ensures) ∙ sym (does-not-fit _ (now (a .store)) _ (now (a .body)) _ _ _ over)
+    let after-change-of = c .before .before .before .before .before .before .before in
+    let a = after-change-of .before .before .before .args in
+    let over = read-over _ _ _ _ _ (a .t) _ _ (after-change-of .change-of .ensures)
+    (c .before .before .before .before .edit-list .ensures) (c .before .before .before .edit-list2 .ensures)
+    (not-true _ (c .before .if1 .taken)) in
+    refused-left _ (now (a .store)) _ TooManySegments (c .refused .ensures)
+    ∙ sym (does-not-fit _ (now (a .store)) _ (now (a .body)) _ _ _ over)
 
 refused-requires-2 : tie.Need-refused-requires-2
 refused-requires-2 c κs = search needs
@@ -37,9 +41,13 @@ refused-requires-2 c κs = search needs
 returns-2 : tie.Need-returns-2
 unfolding pick
 returns-2 c =
-    let a = c .before .before .before .before .before .before .before .before .before .before .before .before .args in
-    let over = rw-over _ _ _ _ _ (a .t) _ _ (c .before .before .before .before .before .before .before .before .before .change-of .ensures) (c .before .before .before .before .before .before .edit-list .ensures) (c .before .before .before .before .before .edit-list2 .ensures) (not-true _ (c .before .if2 .taken)) in
-    refused-left _ (now (a .store)) _ TooManySegments (c .refused2 .ensures) ∙ sym (does-not-fit _ (now (a .store)) _ (now (a .body)) _ _ _ over)
+    let after-edit-list = c .before .before .before .before .before .before in
+    let a = after-edit-list .before .before .before .before .before .before .args in
+    let over = rw-over _ _ _ _ _ (a .t) _ _ (after-edit-list .before .before .before .change-of .ensures)
+    (after-edit-list .edit-list .ensures) (c .before .before .before .before .before .edit-list2 .ensures)
+    (not-true _ (c .before .if2 .taken)) in
+    refused-left _ (now (a .store)) _ TooManySegments (c .refused2 .ensures)
+    ∙ sym (does-not-fit _ (now (a .store)) _ (now (a .body)) _ _ _ over)
 
 settle-store-requires : tie.Need-settle-store-requires
 settle-store-requires c κs = search needs
@@ -53,11 +61,20 @@ same-length c = search needs
 returns-3 : tie.Need-returns-3
 unfolding pick
 returns-3 c =
-    let a = c .before .before .before .before .before .before .before .before .before .before .before .before .before .before .before .before .before .before .args in
-    let fit = both-fit _ _ _ _ _ (a .t) _ _ (c .before .before .before .before .before .before .before .before .before .before .before .before .before .before .before .change-of .ensures) (c .before .before .before .before .before .before .before .before .before .before .before .before .edit-list .ensures) (c .before .before .before .before .before .before .before .before .before .before .before .edit-list2 .ensures) (not-false _ (c .before .before .before .before .before .before .before .before .before .if1 .left)) (not-false _ (c .before .before .before .before .before .before .before .if2 .left)) in
-    let u : Table = record { read = c .before .before .before .before .before .before .before .before .before .before .before .before .edit-list .result .segments; rw = c .before .before .before .before .before .before .before .before .before .before .before .edit-list2 .result .segments } in
-    let after = stored-named (a .s) (now (a .body)) _ (a .t) (isNamed u) (now (a .store)) (c .before .before .before .before .before .before .before .before .before .before .before .before .before .before .before .before .before .before .pre) in
-    is-done _ (now (a .store)) _ (now (a .body)) _ _ _ u _ _ fit (c .accepted .ensures) (c .before .before .before .settle-store .ensures ∙ after)
+    let after-if2 = c .before .before .before .before .before .before .before in
+    let after-edit-list2 = after-if2 .before .before .before .before in
+    let start = after-edit-list2 .before .before .before .before .before .before .before in
+    let a = start .args in
+    let fit = both-fit _ _ _ _ _ (a .t) _ _ (after-edit-list2 .before .before .before .before .change-of .ensures)
+    (after-edit-list2 .before .edit-list .ensures) (after-edit-list2 .edit-list2 .ensures)
+    (not-false _ (after-if2 .before .before .if1 .left)) (not-false _ (after-if2 .if2 .left)) in
+    let u : Table = record {
+      read = after-edit-list2 .before .edit-list .result .segments;
+      rw = after-edit-list2 .edit-list2 .result .segments;
+    } in
+    let after = stored-named (a .s) (now (a .body)) _ (a .t) (isNamed u) (now (a .store)) (start .pre) in
+    is-done _ (now (a .store)) _ (now (a .body)) _ _ _ u _ _ fit (c .accepted .ensures)
+    (c .before .before .before .settle-store .ensures ∙ after)
 
 pub carry-out-spec : {M : Type 1} → statement M
 carry-out-spec =

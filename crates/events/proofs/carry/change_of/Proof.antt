@@ -1,4 +1,4 @@
--- `events::carry::change_of` meets its contract.
+-- `events::carry::change_of` meets its contract: one way out for each step.
 use Rattle.events.specs.Events.{changeOf}
 use borrow.Author.Needs.{needs}
 use mathlib.Core.Path.{sym, ap}

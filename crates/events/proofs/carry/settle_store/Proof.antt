@@ -1,4 +1,4 @@
--- `events::carry::settle_store` meets its contract.
+-- `events::carry::settle_store` meets its contract: one way out for each step.
 use Rattle.events.proofs.EventLaws.{cleared-named}
 use Rattle.slots.specs.Slots.{clearedFrom, isSet}
 use borrow.Author.Needs.{needs}
@@ -38,16 +38,21 @@ same-length : tie.Need-same-length
 same-length c = search needs
 
 returns-2 : tie.Need-returns-2
-returns-2 c = rw (c .before .before .before .before .before .s .given .1) (c .before .before .lay-body .ensures)
+returns-2 c =
+    let after-s = c .before .before .before .before .before in
+    rw (after-s .s .given .1) (c .before .before .lay-body .ensures)
 
 same-length-2 : tie.Need-same-length-2
 same-length-2 c = search needs
 
 returns-3 : tie.Need-returns-3
 returns-3 c =
-    let a = c .before .before .before .before .before .before .before .before .before .args in
+    let after-named-slots = c .before .before .before .before in
+    let a = after-named-slots .before .before .before .before .before .args in
     let cleared : List Bool → List ℕ = λ is. clearedFrom (isSet (a .was)) (isSet is) 8 0 (now (a .store)) in
-    rw (c .before .before .before .before .before .enum-told2 .given .1) (c .before .before .clear-unnamed .ensures ∙ (ap cleared (c .before .before .before .before .named-slots .ensures) ∙ cleared-named (a .was) _ _))
+    rw (after-named-slots .before .enum-told2 .given .1)
+    (c .before .before .clear-unnamed .ensures
+    ∙ (ap cleared (after-named-slots .named-slots .ensures) ∙ cleared-named (a .was) _ _))
 
 returns-4 : tie.Need-returns-4
 returns-4 c = rw (c .enum-told3 .given .1)

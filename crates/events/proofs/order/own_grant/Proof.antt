@@ -1,4 +1,4 @@
--- `events::order::own_grant` meets its contract.
+-- `events::order::own_grant` meets its contract: the fault of its bytes, or what they say.
 use Rattle.events.proofs.EventLaws.{grant-read, grant-refused}
 use Rattle.layout4.specs.Answers.{answerOfLayout4}
 use Rattle.layout4.specs.declared.whole.Layout4Answer.{Layout4Answer}
@@ -33,9 +33,11 @@ returns c =
 returns-2 : tie.Need-returns-2
 unfolding grantOrder
 returns-2 c =
+    let start = c .before .before .before .before .before .before in
     let starts = c .before .before .before .before .read-layout4 .result .starts in
-    let k = came (λ (a : Layout4Answer). answerOfLayout4 a starts) (c .before .before .before .before .read-layout4 .ensures .0) (c .before .before .a .given .1) in
-    (sym (grant-read (now (c .before .before .before .before .before .before .args .bytes)) _ k), layout4-read (now (c .before .before .before .before .before .before .args .bytes)) _ k .within)
+    let k = came (λ (a : Layout4Answer). answerOfLayout4 a starts)
+    (c .before .before .before .before .read-layout4 .ensures .0) (c .before .before .a .given .1) in
+    (sym (grant-read (now (start .args .bytes)) _ k), layout4-read (now (start .args .bytes)) _ k .within)
 
 pub own-grant-spec : {M : Type 1} → statement M
 own-grant-spec =

@@ -40,11 +40,28 @@ why-iomode-requires c κs = search needs
 
 returns-2 : tie.Need-returns-2
 unfolding rangeOrder given
-returns-2 c = λ bytes. (rw (came answerOfLast (c .before .before .before .before .before .before .before .range-last .ensures) (c .before .before .before .before .before .e .given .1), handed-answer answerOfIomode (c .before .before .before .iomode-of .ensures) (c .before .enum-told2 .given .1) (c .why-iomode .ensures) refl), tt)
+returns-2 c =
+    let after-e = c .before .before .before .before .before in
+    λ bytes. (
+      rw (
+        came answerOfLast (after-e .before .before .range-last .ensures) (after-e .e .given .1),
+        handed-answer answerOfIomode (c .before .before .before .iomode-of .ensures)
+            (c .before .enum-told2 .given .1) (c .why-iomode .ensures) refl,
+      ),
+      tt,
+    )
 
 returns-3 : tie.Need-returns-3
 unfolding rangeOrder given
-returns-3 c = λ bytes. (rw (came answerOfLast (c .before .before .before .before .before .before .before .range-last .ensures) (c .before .before .before .before .before .e .given .1), came answerOfIomode (c .before .before .before .iomode-of .ensures) (c .before .m .given .1)), omega arith)
+returns-3 c =
+    let after-e = c .before .before .before .before .before in
+    λ bytes. (
+      rw (
+        came answerOfLast (after-e .before .before .range-last .ensures) (after-e .e .given .1),
+        came answerOfIomode (c .before .before .before .iomode-of .ensures) (c .before .m .given .1),
+      ),
+      omega arith,
+    )
 
 pub own-range-spec : {M : Type 1} → statement M
 own-range-spec =

@@ -1,4 +1,4 @@
--- `events::order::read_own` meets its contract.
+-- `events::order::read_own` meets its contract: one way out for each event.
 use Rattle.reference.specs.Model.{own}
 use borrow.Author.Needs.{needs}
 use denote.Ref.{now}

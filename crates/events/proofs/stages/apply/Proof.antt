@@ -1,4 +1,4 @@
--- `events::stages::apply` meets its contract.
+-- `events::stages::apply` meets its contract: an unsound table, an event refused by itself, then `obey`.
 use Rattle.base.proofs.AnswerLaws.{pick-true}
 use Rattle.base.specs.Answer.{Answer, refused}
 use Rattle.base.specs.declared.refusal.Refusal.the-variants.{Unsound}
@@ -52,28 +52,40 @@ same-length-2 c = search needs
 
 returns-2 : tie.Need-returns-2
 returns-2 c =
-    let a = c .before .before .before .before .before .before .before .before .before .before .before .args in
-    let s = sym (c .before .before .before .before .before .before .before .judge .ensures .0) ∙ not-false _ (c .before .before .before .before .before .if1 .left) in
+    let after-if1 = c .before .before .before .before .before in
+    let a = after-if1 .before .before .before .before .before .before .args in
+    let s = sym (after-if1 .before .before .judge .ensures .0) ∙ not-false _ (after-if1 .if1 .left) in
     let says : ReadOrder → Answer Order = λ r. answerOfOrder r (now (a .bytes)) in
     refused-left _ (now (a .store)) _ _ (c .refused2 .ensures)
-    ∙ sym (own-refused _ (now (a .store)) (eventOf (a .e) (now (a .bytes))) s _ (handed-answer-from (λ (r : ReadOrder). answerOfOrder r []) says (c .before .before .before .before .read-own .ensures .0) (c .before .before .enum-told .given .1) (c .before .why-order .ensures) refl refl))
+    ∙ sym (own-refused _ (now (a .store)) (eventOf (a .e) (now (a .bytes))) s _
+    (handed-answer-from (λ (r : ReadOrder). answerOfOrder r []) says
+    (c .before .before .before .before .read-own .ensures .0) (c .before .before .enum-told .given .1)
+    (c .before .why-order .ensures) refl refl))
 
 obey-requires : tie.Need-obey-requires
 unfolding namedJudged
 obey-requires c κs =
-    let a = c .before .before .before .before .before .before .before .before .before .before .before .before .args in
-    let s = sym (c .before .before .before .before .before .before .before .before .judge .ensures .0) ∙ not-false _ (c .before .before .before .before .before .before .if1 .left) in
-    (c .before .before .before .before .before .before .before .before .judge .ensures .1 ∙ pick-true _ (namedSlots (a .t)) _ s, rw (c .before .before .before .r .given .1) at (c .before .before .before .before .before .read-own .ensures .1))
+    let after-r = c .before .before .before in
+    let after-judge = after-r .before .before .before .before .before in
+    let a = after-judge .before .before .before .before .args in
+    let s = sym (after-judge .judge .ensures .0) ∙ not-false _ (after-r .before .before .before .if1 .left) in (
+      after-judge .judge .ensures .1 ∙ pick-true _ (namedSlots (a .t)) _ s,
+      rw (after-r .r .given .1) at (after-r .before .before .read-own .ensures .1),
+    )
 
 same-length-3 : tie.Need-same-length-3
 same-length-3 c = search needs
 
 returns-3 : tie.Need-returns-3
 returns-3 c =
-    let a = c .before .before .before .before .before .before .before .before .before .before .before .before .before .before .before .args in
-    let s = sym (c .before .before .before .before .before .before .before .before .before .before .before .judge .ensures .0) ∙ not-false _ (c .before .before .before .before .before .before .before .before .before .if1 .left) in
+    let after-r = c .before .before .before .before .before .before in
+    let after-if1 = after-r .before .before .before in
+    let a = after-if1 .before .before .before .before .before .before .args in
+    let s = sym (after-if1 .before .before .judge .ensures .0) ∙ not-false _ (after-if1 .if1 .left) in
     let says : ReadOrder → Answer Order = λ r. answerOfOrder r (now (a .bytes)) in
-    c .before .before .obey .ensures ∙ sym (own-accepted _ (now (a .store)) (eventOf (a .e) (now (a .bytes))) s _ (came says (c .before .before .before .before .before .before .before .before .read-own .ensures .0) (c .before .before .before .before .before .before .r .given .1)))
+    c .before .before .obey .ensures
+    ∙ sym (own-accepted _ (now (a .store)) (eventOf (a .e) (now (a .bytes))) s _
+    (came says (after-r .before .before .read-own .ensures .0) (after-r .r .given .1)))
 
 pub apply-spec : {M : Type 1} → statement M
 apply-spec =

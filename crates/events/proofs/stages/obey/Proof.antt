@@ -1,4 +1,4 @@
--- `events::stages::obey` meets its contract.
+-- `events::stages::obey` meets its contract: the ruling refuses, or the step is carried out.
 use Prim.Native.Nat.{ℕ, _+_, _-_}
 use Rattle.base.specs.Answer.{Answer, accepted, refused}
 use Rattle.events.proofs.EventLaws.{is-allowed, not-allowed, refused-left}
@@ -70,13 +70,20 @@ same-length-2 c = search needs
 
 returns-2 : tie.Need-returns-2
 returns-2 c =
-    let a = c .before .before .before .before .before .before .before .before .before .before .before .before .before .before .before .before .args in
+    let after-r = c .before .before .before .before .before .before in
+    let a = after-r .before .before .before .before .before .before .before .before .before .before .args in
     let p = a .o .body in
     let n : p .start + p .len - p .start ≡ p .len = omega arith in
-    let k = came answerOfRuling (c .before .before .before .before .before .before .before .before .rule .ensures) (c .before .before .before .before .before .before .r .given .1) in
+    let k = came answerOfRuling (after-r .before .before .rule .ensures) (after-r .r .given .1) in
     c .before .before .carry-out .ensures
     ∙ (is-allowed (a .t) (now (a .store)) (a .o .deed) _ _ _ _ (a .o .len) _ k
-    ∙ ap (λ (n : ℕ). obeyed (accepted (record { deed = deedOf (a .o .deed) (bytesFrom n (now (a .bytes)) (p .start)); iomode = a .o .span .iomode; first = a .o .span .first; last = a .o .span .last; len = a .o .len })) (a .t) (now (a .store))) n)
+    ∙ ap (λ (n : ℕ). obeyed (accepted (record {
+      deed = deedOf (a .o .deed) (bytesFrom n (now (a .bytes)) (p .start));
+      iomode = a .o .span .iomode;
+      first = a .o .span .first;
+      last = a .o .span .last;
+      len = a .o .len;
+    })) (a .t) (now (a .store))) n)
 
 pub obey-spec : {M : Type 1} → statement M
 obey-spec =

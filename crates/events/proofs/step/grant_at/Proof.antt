@@ -1,4 +1,4 @@
--- `events::step::grant_at` meets its contract.
+-- `events::step::grant_at` meets its contract: one way out for each home of the body.
 use Rattle.events.specs.Events.{grantAt}
 use borrow.Author.Needs.{needs}
 use mathlib.Core.Path.{sym, ap}

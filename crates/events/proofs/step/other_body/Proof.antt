@@ -1,4 +1,4 @@
--- `events::step::other_body` meets its contract.
+-- `events::step::other_body` meets its contract: one way out for each home of the body.
 use Rattle.events.specs.Events.{elsewhere}
 use borrow.Author.Needs.{needs}
 use mathlib.Core.Path.{sym, ap}

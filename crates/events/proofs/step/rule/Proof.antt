@@ -1,4 +1,4 @@
--- `events::step::rule` meets its contract.
+-- `events::step::rule` meets its contract: one way out for each deed.
 use borrow.Author.Needs.{needs}
 use Rattle.events.proofs.step.rule.Statement.{statement}
 use Rattle.events.proofs.step.rule.Tie as tie

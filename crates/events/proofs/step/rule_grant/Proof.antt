@@ -25,18 +25,25 @@ meets-requires-2 c κs = search needs
 
 returns-2 : tie.Need-returns-2
 returns-2 c =
-    let found = c .before .before .before .before .before .find-home .ensures ∙ ap (homeOf _) (slots-named _ _ _ (c .before .before .before .before .before .before .before .before .pre)) in
-    let e = sym (c .before .before .before .meets .ensures) ∙ c .before .before .if1 .left in
-    sym (is-recalled _ _ _ _ _ _ _ found (c .before .before .before .before .other-body .ensures) e (sym (c .before .meets2 .ensures) ∙ c .if2 .taken))
+    let after-meets = c .before .before .before in
+    let found = after-meets .before .before .find-home .ensures
+    ∙ ap (homeOf _) (slots-named _ _ _ (after-meets .before .before .before .before .before .pre)) in
+    let e = sym (after-meets .meets .ensures) ∙ c .before .before .if1 .left in
+    sym (is-recalled _ _ _ _ _ _ _ found (after-meets .before .other-body .ensures) e
+    (sym (c .before .meets2 .ensures) ∙ c .if2 .taken))
 
 grant-at-requires : tie.Need-grant-at-requires
 grant-at-requires c κs = search needs
 
 returns-3 : tie.Need-returns-3
 returns-3 c =
-    let found = c .before .before .before .before .before .before .find-home .ensures ∙ ap (homeOf _) (slots-named _ _ _ (c .before .before .before .before .before .before .before .before .before .pre)) in
-    let e = sym (c .before .before .before .before .meets .ensures) ∙ c .before .before .before .if1 .left in
-    c .grant-at .ensures ∙ sym (may-be-granted _ _ _ _ _ _ _ found (c .before .before .before .before .before .other-body .ensures) e (sym (c .before .before .meets2 .ensures) ∙ c .before .if2 .left))
+    let after-if1 = c .before .before .before in
+    let found = after-if1 .before .before .before .find-home .ensures
+    ∙ ap (homeOf _) (slots-named _ _ _ (after-if1 .before .before .before .before .before .before .pre)) in
+    let e = sym (after-if1 .before .meets .ensures) ∙ after-if1 .if1 .left in
+    c .grant-at .ensures
+    ∙ sym (may-be-granted _ _ _ _ _ _ _ found (after-if1 .before .before .other-body .ensures) e
+    (sym (c .before .before .meets2 .ensures) ∙ c .before .if2 .left))
 
 pub rule-grant-spec : {M : Type 1} → statement M
 rule-grant-spec =

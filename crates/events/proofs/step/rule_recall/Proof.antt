@@ -1,4 +1,4 @@
--- `events::step::rule_recall` meets its contract.
+-- `events::step::rule_recall` meets its contract: refused where `meets` finds nothing held.
 use Rattle.base.specs.Answer.{pick}
 use Rattle.events.specs.Events.{recallRuled}
 use borrow.Author.Needs.{needs}

@@ -39,12 +39,19 @@ refused-requires-2 c κs = search needs
 
 returns-2 : tie.Need-returns-2
 unfolding layoutAt then
-returns-2 c = refused-whole _ _ _ _ (c .refused2 .ensures .0) (c .refused2 .ensures .1) (fault-met (now (c .before .before .before .before .before .before .before .args .s)) _ (c .before .before .before .before .before .if1 .left) (rw (handed resOfFront (c .before .before .before .before .read-front .ensures) (c .before .before .enum-told .given .1) (c .before .why-front .ensures) refl)))
+returns-2 c =
+    let after-if1 = c .before .before .before .before .before in
+    refused-whole _ _ _ _ (c .refused2 .ensures .0) (c .refused2 .ensures .1)
+    (fault-met (now (after-if1 .before .before .args .s)) _ (after-if1 .if1 .left)
+    (rw (handed resOfFront (c .before .before .before .before .read-front .ensures)
+    (c .before .before .enum-told .given .1) (c .before .why-front .ensures) refl)))
 
 read-mirrors-requires : tie.Need-read-mirrors-requires
 read-mirrors-requires c κs =
-    let f = front-read (now (c .before .before .before .before .before .before .before .args .s)) 0 _ _ (came resOfFront (c .before .before .before .before .read-front .ensures) (c .before .before .f .given .1)) in
-    ((c .before .before .before .before .before .if1 .left), f .within, f .mirrors-few, f .servers-few)
+    let after-f = c .before .before in
+    let f = front-read (now (after-f .before .before .before .before .before .args .s)) 0 _ _
+    (came resOfFront (after-f .before .before .read-front .ensures) (after-f .f .given .1)) in
+    ((after-f .before .before .before .if1 .left), f .within, f .mirrors-few, f .servers-few)
 
 enum-known-m : tie.Need-enum-known-m
 enum-known-m c = search needs
@@ -61,8 +68,16 @@ refused-requires-3 c κs = search needs
 returns-3 : tie.Need-returns-3
 unfolding layoutAt then
 returns-3 c =
-    let m = mirrors-refused-too 0 _ _ _ (handed-from resOfEnd (λ (r : ReadEnd). resOfStarts r (c .before .before .before .before .read-mirrors .last .1 .1 .1 .1 .0)) (c .before .before .before .before .read-mirrors .ensures) (c .before .before .enum-told2 .given .1) (c .before .why-end .ensures) refl refl) in
-    refused-whole _ _ _ _ (c .refused3 .ensures .0) (c .refused3 .ensures .1) (fault-met (now (c .before .before .before .before .before .before .before .before .before .before .before .before .args .s)) _ (c .before .before .before .before .before .before .before .before .before .before .if1 .left) (rw (came resOfFront (c .before .before .before .before .before .before .before .before .before .read-front .ensures) (c .before .before .before .before .before .before .before .f .given .1), m)))
+    let after-read-mirrors = c .before .before .before .before in
+    let after-f = after-read-mirrors .before .before .before in
+    let m = mirrors-refused-too 0 _ _ _
+    (handed-from resOfEnd (λ (r : ReadEnd). resOfStarts r (after-read-mirrors .read-mirrors .last .1 .1 .1 .1 .0))
+    (after-read-mirrors .read-mirrors .ensures) (c .before .before .enum-told2 .given .1) (c .before .why-end .ensures)
+    refl refl) in
+    refused-whole _ _ _ _ (c .refused3 .ensures .0) (c .refused3 .ensures .1)
+    (fault-met (now (after-f .before .before .before .before .before .args .s)) _
+    (after-f .before .before .before .if1 .left)
+    (rw (came resOfFront (after-f .before .before .read-front .ensures) (after-f .f .given .1), m)))
 
 read-tail-requires : tie.Need-read-tail-requires
 read-tail-requires c κs = search needs
@@ -82,24 +97,59 @@ refused-requires-4 c κs = search needs
 returns-4 : tie.Need-returns-4
 unfolding layoutAt then
 returns-4 c =
-    let m = mirrors-read-too 0 _ _ _ _ (came (λ (r : ReadEnd). resOfStarts r (c .before .before .before .before .before .before .before .before .read-mirrors .last .1 .1 .1 .1 .0)) (c .before .before .before .before .before .before .before .before .read-mirrors .ensures) (c .before .before .before .before .before .before .m .given .1)) in
-    refused-whole _ _ _ _ (c .refused4 .ensures .0) (c .refused4 .ensures .1) (fault-met (now (c .before .before .before .before .before .before .before .before .before .before .before .before .before .before .before .before .args .s)) _ (c .before .before .before .before .before .before .before .before .before .before .before .before .before .before .if1 .left) (rw (came resOfFront (c .before .before .before .before .before .before .before .before .before .before .before .before .before .read-front .ensures) (c .before .before .before .before .before .before .before .before .before .before .before .f .given .1), m .read, handed resOfTail (c .before .before .before .before .read-tail .ensures) (c .before .before .enum-told3 .given .1) (c .before .why-tail .ensures) refl)))
+    let after-m = c .before .before .before .before .before .before in
+    let after-read-mirrors = after-m .before .before in
+    let after-f = after-read-mirrors .before .before .before in
+    let m = mirrors-read-too 0 _ _ _ _
+    (came (λ (r : ReadEnd). resOfStarts r (after-read-mirrors .read-mirrors .last .1 .1 .1 .1 .0))
+    (after-read-mirrors .read-mirrors .ensures) (after-m .m .given .1)) in
+    refused-whole _ _ _ _ (c .refused4 .ensures .0) (c .refused4 .ensures .1)
+    (fault-met (now (after-f .before .before .before .before .before .args .s)) _
+    (after-f .before .before .before .if1 .left)
+    (rw (
+      came resOfFront (after-f .before .before .read-front .ensures) (after-f .f .given .1),
+      m .read,
+      handed resOfTail (c .before .before .before .before .read-tail .ensures)
+          (c .before .before .enum-told3 .given .1) (c .before .why-tail .ensures) refl,
+    )))
 
 refused-requires-5 : tie.Need-refused-requires-5
 refused-requires-5 c κs = search needs
 
 returns-5 : tie.Need-returns-5
 returns-5 c =
-    let m = mirrors-read-too 0 _ _ _ _ (came (λ (r : ReadEnd). resOfStarts r (c .before .before .before .before .before .before .before .before .before .before .read-mirrors .last .1 .1 .1 .1 .0)) (c .before .before .before .before .before .before .before .before .before .before .read-mirrors .ensures) (c .before .before .before .before .before .before .before .before .m .given .1)) in
-    refused-whole _ _ _ _ (c .refused5 .ensures .0) (c .refused5 .ensures .1) (left-over (now (c .before .before .before .before .before .before .before .before .before .before .before .before .before .before .before .before .before .before .args .s)) _ _ (c .before .before .before .before .before .before .before .before .before .before .before .before .before .before .before .before .if1 .left) (layout-parts (now (c .before .before .before .before .before .before .before .before .before .before .before .before .before .before .before .before .before .before .args .s)) _ _ _ _ _ _ (came resOfFront (c .before .before .before .before .before .before .before .before .before .before .before .before .before .before .before .read-front .ensures) (c .before .before .before .before .before .before .before .before .before .before .before .before .before .f .given .1)) (m .read) (came resOfTail (c .before .before .before .before .before .before .read-tail .ensures) (c .before .before .before .before .t .given .1))) (c .before .if2 .taken))
+    let after-t = c .before .before .before .before in
+    let after-read-mirrors = after-t .before .before .before .before .before .before in
+    let after-f = after-read-mirrors .before .before .before in
+    let start = after-f .before .before .before .before .before in
+    let m = mirrors-read-too 0 _ _ _ _
+    (came (λ (r : ReadEnd). resOfStarts r (after-read-mirrors .read-mirrors .last .1 .1 .1 .1 .0))
+    (after-read-mirrors .read-mirrors .ensures) (after-t .before .before .before .before .m .given .1)) in
+    refused-whole _ _ _ _ (c .refused5 .ensures .0) (c .refused5 .ensures .1)
+    (left-over (now (start .args .s)) _ _ (after-f .before .before .before .if1 .left)
+    (layout-parts (now (start .args .s)) _ _ _ _ _ _
+    (came resOfFront (after-f .before .before .read-front .ensures) (after-f .f .given .1)) (m .read)
+    (came resOfTail (after-t .before .before .read-tail .ensures) (after-t .t .given .1))) (c .before .if2 .taken))
 
 returns-6 : tie.Need-returns-6
 returns-6 c =
-    let m = mirrors-read-too 0 _ _ _ _ (came (λ (r : ReadEnd). resOfStarts r (c .before .before .before .before .before .before .before .before .before .read-mirrors .last .1 .1 .1 .1 .0)) (c .before .before .before .before .before .before .before .before .before .read-mirrors .ensures) (c .before .before .before .before .before .before .before .m .given .1)) in
-    let f = front-read (now (c .before .before .before .before .before .before .before .before .before .before .before .before .before .before .before .before .before .args .s)) 0 _ _ (came resOfFront (c .before .before .before .before .before .before .before .before .before .before .before .before .before .before .read-front .ensures) (c .before .before .before .before .before .before .before .before .before .before .before .before .f .given .1)) in
-    let r = mirrors-have _ _ (now (c .before .before .before .before .before .before .before .before .before .before .before .before .before .before .before .before .before .args .s)) _ (m .mirrors) _ (f .mirrors-some) (m .read) in
-    let table = sym (starts-filled _ (m .mirrors) (f .servers-few) (r .each) (omega (arith, r .count, f .mirrors-few))) ∙ m .table in
-    accepted-whole _ _ _ _ table (all-read (now (c .before .before .before .before .before .before .before .before .before .before .before .before .before .before .before .before .before .args .s)) _ _ (c .before .before .before .before .before .before .before .before .before .before .before .before .before .before .before .if1 .left) (layout-parts (now (c .before .before .before .before .before .before .before .before .before .before .before .before .before .before .before .before .before .args .s)) _ _ _ _ _ _ (came resOfFront (c .before .before .before .before .before .before .before .before .before .before .before .before .before .before .read-front .ensures) (c .before .before .before .before .before .before .before .before .before .before .before .before .f .given .1)) (m .read) (came resOfTail (c .before .before .before .before .before .read-tail .ensures) (c .before .before .before .t .given .1))) (c .if2 .left))
+    let after-t = c .before .before .before in
+    let after-read-mirrors = after-t .before .before .before .before .before .before in
+    let after-f = after-read-mirrors .before .before .before in
+    let start = after-f .before .before .before .before .before in
+    let m = mirrors-read-too 0 _ _ _ _
+    (came (λ (r : ReadEnd). resOfStarts r (after-read-mirrors .read-mirrors .last .1 .1 .1 .1 .0))
+    (after-read-mirrors .read-mirrors .ensures) (after-t .before .before .before .before .m .given .1)) in
+    let f = front-read (now (start .args .s)) 0 _ _
+    (came resOfFront (after-f .before .before .read-front .ensures) (after-f .f .given .1)) in
+    let r = mirrors-have _ _ (now (start .args .s)) _ (m .mirrors) _ (f .mirrors-some) (m .read) in
+    let table = sym (starts-filled _ (m .mirrors) (f .servers-few) (r .each) (omega (arith, r .count, f .mirrors-few)))
+    ∙ m .table in
+    accepted-whole _ _ _ _ table
+    (all-read (now (start .args .s)) _ _ (after-f .before .before .before .if1 .left)
+    (layout-parts (now (start .args .s)) _ _ _ _ _ _
+    (came resOfFront (after-f .before .before .read-front .ensures) (after-f .f .given .1)) (m .read)
+    (came resOfTail (after-t .before .before .read-tail .ensures) (after-t .t .given .1))) (c .if2 .left))
 
 pub read-layout-spec : {M : Type 1} → statement M
 read-layout-spec =

@@ -40,7 +40,13 @@ why-u32-requires c κs = search needs
 
 returns-2 : tie.Need-returns-2
 unfolding frontAt then pick
-returns-2 c = rw (came resOfU64 (c .before .before .before .before .before .before .before .read-u64 .ensures) (c .before .before .before .before .before .u .given .1), handed resOfU32 (c .before .before .before .read-count .ensures) (c .before .enum-told2 .given .1) (c .why-u32 .ensures) refl)
+returns-2 c =
+    let after-u = c .before .before .before .before .before in
+    rw (
+      came resOfU64 (after-u .before .before .read-u64 .ensures) (after-u .u .given .1),
+      handed resOfU32 (c .before .before .before .read-count .ensures) (c .before .enum-told2 .given .1)
+          (c .why-u32 .ensures) refl,
+    )
 
 read-count-requires-2 : tie.Need-read-count-requires-2
 read-count-requires-2 c κs = search needs
@@ -56,18 +62,44 @@ why-u32-requires-2 c κs = search needs
 
 returns-3 : tie.Need-returns-3
 unfolding frontAt then pick
-returns-3 c = rw (came resOfU64 (c .before .before .before .before .before .before .before .before .before .before .before .read-u64 .ensures) (c .before .before .before .before .before .before .before .before .before .u .given .1), came resOfU32 (c .before .before .before .before .before .before .before .read-count .ensures) (c .before .before .before .before .before .m .given .1), handed resOfU32 (c .before .before .before .read-count2 .ensures) (c .before .enum-told3 .given .1) (c .why-u322 .ensures) refl)
+returns-3 c =
+    let after-m = c .before .before .before .before .before in
+    let after-u = after-m .before .before .before .before in
+    rw (
+      came resOfU64 (after-u .before .before .read-u64 .ensures) (after-u .u .given .1),
+      came resOfU32 (after-m .before .before .read-count .ensures) (after-m .m .given .1),
+      handed resOfU32 (c .before .before .before .read-count2 .ensures) (c .before .enum-told3 .given .1)
+          (c .why-u322 .ensures) refl,
+    )
 
 unit-fits-requires : tie.Need-unit-fits-requires
 unit-fits-requires c κs = search needs
 
 returns-4 : tie.Need-returns-4
 unfolding frontAt then pick
-returns-4 c = rw (came resOfU64 (c .before .before .before .before .before .before .before .before .before .before .before .before .before .read-u64 .ensures) (c .before .before .before .before .before .before .before .before .before .before .before .u .given .1), came resOfU32 (c .before .before .before .before .before .before .before .before .before .read-count .ensures) (c .before .before .before .before .before .before .before .m .given .1), came resOfU32 (c .before .before .before .before .before .read-count2 .ensures) (c .before .before .before .n .given .1), sym (c .before .unit-fits .ensures) ∙ not-true _ (c .if1 .taken))
+returns-4 c =
+    let after-n = c .before .before .before in
+    let after-m = after-n .before .before .before .before in
+    let after-u = after-m .before .before .before .before in
+    rw (
+      came resOfU64 (after-u .before .before .read-u64 .ensures) (after-u .u .given .1),
+      came resOfU32 (after-m .before .before .read-count .ensures) (after-m .m .given .1),
+      came resOfU32 (after-n .before .before .read-count2 .ensures) (after-n .n .given .1),
+      sym (c .before .unit-fits .ensures) ∙ not-true _ (c .if1 .taken),
+    )
 
 returns-5 : tie.Need-returns-5
 unfolding frontAt then pick
-returns-5 c = rw (came resOfU64 (c .before .before .before .before .before .before .before .before .before .before .before .before .before .read-u64 .ensures) (c .before .before .before .before .before .before .before .before .before .before .before .u .given .1), came resOfU32 (c .before .before .before .before .before .before .before .before .before .read-count .ensures) (c .before .before .before .before .before .before .before .m .given .1), came resOfU32 (c .before .before .before .before .before .read-count2 .ensures) (c .before .before .before .n .given .1), sym (c .before .unit-fits .ensures) ∙ not-false _ (c .if1 .left))
+returns-5 c =
+    let after-n = c .before .before .before in
+    let after-m = after-n .before .before .before .before in
+    let after-u = after-m .before .before .before .before in
+    rw (
+      came resOfU64 (after-u .before .before .read-u64 .ensures) (after-u .u .given .1),
+      came resOfU32 (after-m .before .before .read-count .ensures) (after-m .m .given .1),
+      came resOfU32 (after-n .before .before .read-count2 .ensures) (after-n .n .given .1),
+      sym (c .before .unit-fits .ensures) ∙ not-false _ (c .if1 .left),
+    )
 
 pub read-front-spec : {M : Type 1} → statement M
 read-front-spec =

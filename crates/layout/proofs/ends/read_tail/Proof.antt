@@ -44,11 +44,24 @@ why-u32-requires-2 c κs = search needs
 
 returns-3 : tie.Need-returns-3
 unfolding tailAt then pick
-returns-3 c = rw (came resOfU32 (c .before .before .before .before .before .before .before .before .read-u32 .ensures) (c .before .before .before .before .before .before .f .given .1), le-leb _ _ (c .before .before .before .before .if1 .left), handed resOfU32 (c .before .before .before .read-u322 .ensures) (c .before .enum-told2 .given .1) (c .why-u322 .ensures) refl)
+returns-3 c =
+    let after-f = c .before .before .before .before .before .before in
+    rw (
+      came resOfU32 (after-f .before .before .read-u32 .ensures) (after-f .f .given .1),
+      le-leb _ _ (c .before .before .before .before .if1 .left),
+      handed resOfU32 (c .before .before .before .read-u322 .ensures) (c .before .enum-told2 .given .1)
+          (c .why-u322 .ensures) refl,
+    )
 
 returns-4 : tie.Need-returns-4
 unfolding tailAt then pick
-returns-4 c = rw (came resOfU32 (c .before .before .before .before .before .before .before .before .read-u32 .ensures) (c .before .before .before .before .before .before .f .given .1), le-leb _ _ (c .before .before .before .before .if1 .left), came resOfU32 (c .before .before .before .read-u322 .ensures) (c .before .h .given .1))
+returns-4 c =
+    let after-f = c .before .before .before .before .before .before in
+    rw (
+      came resOfU32 (after-f .before .before .read-u32 .ensures) (after-f .f .given .1),
+      le-leb _ _ (c .before .before .before .before .if1 .left),
+      came resOfU32 (c .before .before .before .read-u322 .ensures) (c .before .h .given .1),
+    )
 
 pub read-tail-spec : {M : Type 1} → statement M
 read-tail-spec =

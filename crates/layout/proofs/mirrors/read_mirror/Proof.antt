@@ -35,12 +35,20 @@ returns-2 c = rw (came resOfU32 (c .before .before .before .before .read-count .
 
 read-servers-requires : tie.Need-read-servers-requires
 read-servers-requires c κs =
-    let n = count-read 1 16 (now (c .before .before .before .before .before .before .before .args .s)) (c .before .before .before .before .before .before .before .args .c .at) _ _ (came resOfU32 (c .before .before .before .before .before .read-count .ensures) (c .before .before .before .r .given .1)) in
-    (c .before .before .before .before .before .before .before .pre .0, n .number .within, c .before .before .before .before .before .before .before .pre .1)
+    let after-r = c .before .before .before in
+    let start = after-r .before .before .before .before in
+    let n = count-read 1 16 (now (start .args .s)) (start .args .c .at) _ _
+    (came resOfU32 (after-r .before .before .read-count .ensures) (after-r .r .given .1)) in
+    (start .pre .0, n .number .within, start .pre .1)
 
 returns-3 : tie.Need-returns-3
 unfolding mirrorAt then pick
-returns-3 c = rw (came resOfU32 (c .before .before .before .before .before .before .read-count .ensures) (c .before .before .before .before .r .given .1), eq-eqb _ _ (c .before .before .if1 .left)) (c .read-servers .ensures)
+returns-3 c =
+    let after-r = c .before .before .before .before in
+    rw (
+      came resOfU32 (after-r .before .before .read-count .ensures) (after-r .r .given .1),
+      eq-eqb _ _ (c .before .before .if1 .left),
+    ) (c .read-servers .ensures)
 
 pub read-mirror-spec : {M : Type 1} → statement M
 read-mirror-spec =

@@ -34,8 +34,12 @@ enum-told c = search needs
 returns : tie.Need-returns Inv-loop μ-loop
 unfolding mirrorsAt
 returns c =
-    let says : ReadEnd → Res (List ℕ) = λ r. resOfStarts r (c .before .before .read-servers .last .1 .1 .1 .1 .0) in
-    ap says (c .enum-told .given .1) ∙ sym (row-refused 0 (manyAt serverAt (c .before .before .before .before .before .args .servers) (now (c .before .before .before .before .before .args .s)) (c .before .before .before .before .before .args .c .at)) _ (now (c .before .before .before .before .before .args .starts)) _ (came says (c .before .before .read-servers .ensures) (c .enum-told .given .1)))
+    let after-read-servers = c .before .before in
+    let start = after-read-servers .before .before .before in
+    let says : ReadEnd → Res (List ℕ) = λ r. resOfStarts r (after-read-servers .read-servers .last .1 .1 .1 .1 .0) in
+    ap says (c .enum-told .given .1)
+    ∙ sym (row-refused 0 (manyAt serverAt (start .args .servers) (now (start .args .s)) (start .args .c .at)) _
+    (now (start .args .starts)) _ (came says (after-read-servers .read-servers .ensures) (c .enum-told .given .1)))
 
 loop-holds : tie.Need-loop-holds Inv-loop μ-loop
 loop-holds c = (omega arith, refl)
@@ -44,7 +48,9 @@ mul-read-mirror : tie.Need-mul-read-mirror Inv-loop μ-loop
 mul-read-mirror c = search needs
 
 read-mirror-requires : tie.Need-read-mirror-requires Inv-loop μ-loop
-read-mirror-requires c κs = (c .before .before .before .before .before .before .before .before .before .pre .0, omega (arith, c .before .before .before .before .before .before .before .before .before .pre .2, c .before .before .before .before .before .before .before .before .before .pre .3))
+read-mirror-requires c κs =
+    let start = c .before .before .before .before .before .before .before .before .before in
+    (start .pre .0, omega (arith, start .pre .2, start .pre .3))
 
 enum-known-r : tie.Need-enum-known-r Inv-loop μ-loop
 enum-known-r c = search needs
@@ -55,12 +61,20 @@ enum-told-2 c = search needs
 returns-2 : tie.Need-returns-2 Inv-loop μ-loop
 unfolding mirrorsAt
 returns-2 c =
-    let s = now (c .before .before .before .before .before .before .before .before .before .before .before .before .args .s) in
-    let n = c .before .before .before .before .before .before .before .before .before .before .before .before .args .servers in
-    let l = c .before .before .before .before .before .loop in
-    let says : ReadEnd → Res (List ℕ) = λ r. resOfStarts r (c .before .before .read-mirror .last .1 .1 .1 .1 .0) in
-    let first = row-read 0 (manyAt serverAt n s (c .before .before .before .before .before .before .before .before .before .before .before .before .args .c .at)) (λ p1. manyAt (mirrorAt n) (c .before .before .before .before .before .before .before .before .before .before .before .before .args .mirrors - 1) s p1) (now (c .before .before .before .before .before .before .before .before .before .before .before .before .args .starts)) _ _ (came (λ (r : ReadEnd). resOfStarts r (c .before .before .before .before .before .before .before .before .before .read-servers .last .1 .1 .1 .1 .0)) (c .before .before .before .before .before .before .before .before .before .read-servers .ensures) (c .before .before .before .before .before .before .before .f .given .1)) in
-    let here = mirrors-refused n s (c .before .before .before .before .before .before .before .before .before .before .before .before .args .mirrors - l .m) (l .m * 16) (l .d .at) (l .starts) _ (omega arith) (came says (c .before .before .read-mirror .ensures) (c .enum-told2 .given .1)) in
+    let after-read-mirror = c .before .before in
+    let at-loop = after-read-mirror .before .before .before in
+    let after-read-servers = at-loop .before .before .before .before in
+    let start = after-read-servers .before .before .before in
+    let s = now (start .args .s) in
+    let n = start .args .servers in
+    let l = at-loop .loop in
+    let says : ReadEnd → Res (List ℕ) = λ r. resOfStarts r (after-read-mirror .read-mirror .last .1 .1 .1 .1 .0) in
+    let first = row-read 0 (manyAt serverAt n s (start .args .c .at))
+    (λ p1. manyAt (mirrorAt n) (start .args .mirrors - 1) s p1) (now (start .args .starts)) _ _
+    (came (λ (r : ReadEnd). resOfStarts r (after-read-servers .read-servers .last .1 .1 .1 .1 .0))
+    (after-read-servers .read-servers .ensures) (at-loop .before .before .f .given .1)) in
+    let here = mirrors-refused n s (start .args .mirrors - l .m) (l .m * 16) (l .d .at) (l .starts) _ (omega arith)
+    (came says (after-read-mirror .read-mirror .ensures) (c .enum-told2 .given .1)) in
     ap says (c .enum-told2 .given .1) ∙ sym (first ∙ l .inv .1 ∙ here)
 
 add-m : tie.Need-add-m Inv-loop μ-loop
@@ -71,23 +85,33 @@ loop-less c = search needs
 
 loop-again : tie.Need-loop-again Inv-loop μ-loop
 loop-again c =
-    let s = now (c .before .before .before .before .before .before .before .before .before .before .before .before .before .args .s) in
-    let n = c .before .before .before .before .before .before .before .before .before .before .before .before .before .args .servers in
-    let l = c .before .before .before .before .before .before .loop in
-    let says : ReadEnd → Res (List ℕ) = λ r. resOfStarts r (c .before .before .before .read-mirror .last .1 .1 .1 .1 .0) in
-    let here = mirrors-next n s (c .before .before .before .before .before .before .before .before .before .before .before .before .before .args .mirrors - l .m) (l .m * 16) (l .d .at) (l .starts) _ _ (omega arith) (came says (c .before .before .before .read-mirror .ensures) (c .before .r .given .1)) in
+    let after-read-mirror = c .before .before .before in
+    let at-loop = after-read-mirror .before .before .before in
+    let start = at-loop .before .before .before .before .before .before .before in
+    let s = now (start .args .s) in
+    let n = start .args .servers in
+    let l = at-loop .loop in
+    let says : ReadEnd → Res (List ℕ) = λ r. resOfStarts r (after-read-mirror .read-mirror .last .1 .1 .1 .1 .0) in
+    let here = mirrors-next n s (start .args .mirrors - l .m) (l .m * 16) (l .d .at) (l .starts) _ _ (omega arith)
+    (came says (after-read-mirror .read-mirror .ensures) (c .before .r .given .1)) in
     let e : (l .m + 1) * 16 ≡ l .m * 16 + 16 = omega arith in
-    let f : c .before .before .before .before .before .before .before .before .before .before .before .before .before .args .mirrors - (l .m + 1) ≡ c .before .before .before .before .before .before .before .before .before .before .before .before .before .args .mirrors - l .m - 1 = omega arith in
+    let f : start .args .mirrors - (l .m + 1) ≡ start .args .mirrors - l .m - 1 = omega arith in
     (omega arith, rw (e, f) (l .inv .1 ∙ here))
 
 returns-3 : tie.Need-returns-3 Inv-loop μ-loop
 unfolding mirrorsAt
 returns-3 c =
-    let s = now (c .before .before .before .before .before .before .before .before .args .s) in
-    let n = c .before .before .before .before .before .before .before .before .args .servers in
+    let after-read-servers = c .before .before .before .before .before in
+    let start = after-read-servers .before .before .before in
+    let s = now (start .args .s) in
+    let n = start .args .servers in
     let l = c .before .loop in
-    let first = row-read 0 (manyAt serverAt n s (c .before .before .before .before .before .before .before .before .args .c .at)) (λ p1. manyAt (mirrorAt n) (c .before .before .before .before .before .before .before .before .args .mirrors - 1) s p1) (now (c .before .before .before .before .before .before .before .before .args .starts)) _ _ (came (λ (r : ReadEnd). resOfStarts r (c .before .before .before .before .before .read-servers .last .1 .1 .1 .1 .0)) (c .before .before .before .before .before .read-servers .ensures) (c .before .before .before .f .given .1)) in
-    sym (first ∙ l .inv .1 ∙ mirrors-none n s (c .before .before .before .before .before .before .before .before .args .mirrors - l .m) (l .m * 16) (l .d .at) (l .starts) (omega arith))
+    let first = row-read 0 (manyAt serverAt n s (start .args .c .at))
+    (λ p1. manyAt (mirrorAt n) (start .args .mirrors - 1) s p1) (now (start .args .starts)) _ _
+    (came (λ (r : ReadEnd). resOfStarts r (after-read-servers .read-servers .last .1 .1 .1 .1 .0))
+    (after-read-servers .read-servers .ensures) (c .before .before .before .f .given .1)) in
+    sym (first ∙ l .inv .1
+    ∙ mirrors-none n s (start .args .mirrors - l .m) (l .m * 16) (l .d .at) (l .starts) (omega arith))
 
 pub read-mirrors-spec : {M : Type 1} → statement M
 read-mirrors-spec =

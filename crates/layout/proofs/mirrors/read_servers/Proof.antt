@@ -39,20 +39,32 @@ why-server-requires c κs = search needs
 
 returns : tie.Need-returns Inv-loop μ-loop
 returns c =
-    let l = c .before .before .before .before .before .loop in
-    rw (l .inv .2, servers-refused (l .left) (l .k) (now (c .before .before .before .before .before .before .before .args .s)) (l .d .at) (l .starts) _ (omega arith) (handed resOfServer (c .before .before .before .read-server .ensures) (c .before .enum-told .given .1) (c .why-server .ensures) refl))
+    let at-loop = c .before .before .before .before .before in
+    let l = at-loop .loop in
+    rw (
+      l .inv .2,
+      servers-refused (l .left) (l .k) (now (at-loop .before .before .args .s)) (l .d .at) (l .starts) _ (omega arith)
+          (handed resOfServer (c .before .before .before .read-server .ensures) (c .before .enum-told .given .1)
+          (c .why-server .ensures) refl),
+    )
 
 cast-starts : tie.Need-cast-starts Inv-loop μ-loop
-cast-starts c = omega (arith, c .before .before .before .before .before .loop .inv .1, c .before .before .before .before .before .before .before .pre .0)
+cast-starts c =
+    let at-loop = c .before .before .before .before .before in
+    omega (arith, at-loop .loop .inv .1, at-loop .before .before .pre .0)
 
 mul-starts : tie.Need-mul-starts Inv-loop μ-loop
 mul-starts c = search needs
 
 element-write-starts : tie.Need-element-write-starts Inv-loop μ-loop
-element-write-starts c = omega (arith, c .before .before .before .before .before .loop .inv .0, c .before .before .before .before .before .before .before .pre .2)
+element-write-starts c =
+    let at-loop = c .before .before .before .before .before in
+    omega (arith, at-loop .loop .inv .0, at-loop .before .before .pre .2)
 
 add-k : tie.Need-add-k Inv-loop μ-loop
-add-k c = omega (arith, c .before .before .before .before .before .loop .inv .0, c .before .before .before .before .before .before .before .pre .2)
+add-k c =
+    let at-loop = c .before .before .before .before .before in
+    omega (arith, at-loop .loop .inv .0, at-loop .before .before .pre .2)
 
 sub-left : tie.Need-sub-left Inv-loop μ-loop
 sub-left c = search needs
@@ -62,10 +74,16 @@ loop-less c = search needs
 
 loop-again : tie.Need-loop-again Inv-loop μ-loop
 loop-again c =
-    let l = c .before .before .before .before .before .loop in
+    let at-loop = c .before .before .before .before .before in
+    let l = at-loop .loop in
     let e = came resOfServer (c .before .before .before .read-server .ensures) (c .before .r .given .1) in
-    let v = server-read (now (c .before .before .before .before .before .before .before .args .s)) (l .d .at) _ _ e in
-    (omega (arith, l .inv .0), v .within, l .inv .2 ∙ servers-next (l .left) (l .k) (now (c .before .before .before .before .before .before .before .args .s)) (l .d .at) (l .starts) _ _ (omega arith) e (v .device))
+    let v = server-read (now (at-loop .before .before .args .s)) (l .d .at) _ _ e in (
+      omega (arith, l .inv .0),
+      v .within,
+      l .inv .2
+          ∙ servers-next (l .left) (l .k) (now (at-loop .before .before .args .s)) (l .d .at) (l .starts) _ _
+          (omega arith) e (v .device),
+    )
 
 returns-2 : tie.Need-returns-2 Inv-loop μ-loop
 returns-2 c =

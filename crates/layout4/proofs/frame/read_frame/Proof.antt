@@ -42,7 +42,13 @@ why-u32-requires c κs = search needs
 
 returns-2 : tie.Need-returns-2
 unfolding frameAt then asItem pick
-returns-2 c = rw (came resOfRange (c .before .before .before .before .before .before .before .read-range .ensures) (c .before .before .before .before .before .a .given .1), handed resOfU32 (c .before .before .before .read-u32 .ensures) (c .before .enum-told2 .given .1) (c .why-u32 .ensures) refl)
+returns-2 c =
+    let after-a = c .before .before .before .before .before in
+    rw (
+      came resOfRange (after-a .before .before .read-range .ensures) (after-a .a .given .1),
+      handed resOfU32 (c .before .before .before .read-u32 .ensures) (c .before .enum-told2 .given .1)
+          (c .why-u32 .ensures) refl,
+    )
 
 grant-iomode-requires : tie.Need-grant-iomode-requires
 grant-iomode-requires c κs = search needs
@@ -58,7 +64,15 @@ why-iomode-requires c κs = search needs
 
 returns-3 : tie.Need-returns-3
 unfolding frameAt then asItem pick
-returns-3 c = rw (came resOfRange (c .before .before .before .before .before .before .before .before .before .before .before .read-range .ensures) (c .before .before .before .before .before .before .before .before .before .a .given .1), came resOfU32 (c .before .before .before .before .before .before .before .read-u32 .ensures) (c .before .before .before .before .before .m .given .1), handed-answer answerOfIomode (c .before .before .before .grant-iomode .ensures) (c .before .enum-told3 .given .1) (c .why-iomode .ensures) refl)
+returns-3 c =
+    let after-m = c .before .before .before .before .before in
+    let after-a = after-m .before .before .before .before in
+    rw (
+      came resOfRange (after-a .before .before .read-range .ensures) (after-a .a .given .1),
+      came resOfU32 (after-m .before .before .read-u32 .ensures) (after-m .m .given .1),
+      handed-answer answerOfIomode (c .before .before .before .grant-iomode .ensures) (c .before .enum-told3 .given .1)
+          (c .why-iomode .ensures) refl,
+    )
 
 read-u32-requires-2 : tie.Need-read-u32-requires-2
 read-u32-requires-2 c κs = search needs
@@ -74,11 +88,31 @@ why-u32-requires-2 c κs = search needs
 
 returns-4 : tie.Need-returns-4
 unfolding frameAt then asItem pick
-returns-4 c = rw (came resOfRange (c .before .before .before .before .before .before .before .before .before .before .before .before .before .before .before .read-range .ensures) (c .before .before .before .before .before .before .before .before .before .before .before .before .before .a .given .1), came resOfU32 (c .before .before .before .before .before .before .before .before .before .before .before .read-u32 .ensures) (c .before .before .before .before .before .before .before .before .before .m .given .1), came answerOfIomode (c .before .before .before .before .before .before .before .grant-iomode .ensures) (c .before .before .before .before .before .g .given .1), handed resOfU32 (c .before .before .before .read-u322 .ensures) (c .before .enum-told4 .given .1) (c .why-u322 .ensures) refl)
+returns-4 c =
+    let after-g = c .before .before .before .before .before in
+    let after-m = after-g .before .before .before .before in
+    let after-a = after-m .before .before .before .before in
+    rw (
+      came resOfRange (after-a .before .before .read-range .ensures) (after-a .a .given .1),
+      came resOfU32 (after-m .before .before .read-u32 .ensures) (after-m .m .given .1),
+      came answerOfIomode (after-g .before .before .grant-iomode .ensures) (after-g .g .given .1),
+      handed resOfU32 (c .before .before .before .read-u322 .ensures) (c .before .enum-told4 .given .1)
+          (c .why-u322 .ensures) refl,
+    )
 
 returns-5 : tie.Need-returns-5
 unfolding frameAt then asItem pick
-returns-5 c = rw (came resOfRange (c .before .before .before .before .before .before .before .before .before .before .before .before .before .before .before .before .read-range .ensures) (c .before .before .before .before .before .before .before .before .before .before .before .before .before .before .a .given .1), came resOfU32 (c .before .before .before .before .before .before .before .before .before .before .before .before .read-u32 .ensures) (c .before .before .before .before .before .before .before .before .before .before .m .given .1), came answerOfIomode (c .before .before .before .before .before .before .before .before .grant-iomode .ensures) (c .before .before .before .before .before .before .g .given .1), came resOfU32 (c .before .before .before .before .read-u322 .ensures) (c .before .before .t .given .1), ne-eqb _ _ (c .if1 .taken))
+returns-5 c =
+    let after-g = c .before .before .before .before .before .before in
+    let after-m = after-g .before .before .before .before in
+    let after-a = after-m .before .before .before .before in
+    rw (
+      came resOfRange (after-a .before .before .read-range .ensures) (after-a .a .given .1),
+      came resOfU32 (after-m .before .before .read-u32 .ensures) (after-m .m .given .1),
+      came answerOfIomode (after-g .before .before .grant-iomode .ensures) (after-g .g .given .1),
+      came resOfU32 (c .before .before .before .before .read-u322 .ensures) (c .before .before .t .given .1),
+      ne-eqb _ _ (c .if1 .taken),
+    )
 
 read-count-requires : tie.Need-read-count-requires
 read-count-requires c κs = search needs
@@ -94,11 +128,36 @@ why-u32-requires-3 c κs = search needs
 
 returns-6 : tie.Need-returns-6
 unfolding frameAt then asItem pick
-returns-6 c = rw (came resOfRange (c .before .before .before .before .before .before .before .before .before .before .before .before .before .before .before .before .before .before .before .before .read-range .ensures) (c .before .before .before .before .before .before .before .before .before .before .before .before .before .before .before .before .before .before .a .given .1), came resOfU32 (c .before .before .before .before .before .before .before .before .before .before .before .before .before .before .before .before .read-u32 .ensures) (c .before .before .before .before .before .before .before .before .before .before .before .before .before .before .m .given .1), came answerOfIomode (c .before .before .before .before .before .before .before .before .before .before .before .before .grant-iomode .ensures) (c .before .before .before .before .before .before .before .before .before .before .g .given .1), came resOfU32 (c .before .before .before .before .before .before .before .before .read-u322 .ensures) (c .before .before .before .before .before .before .t .given .1), eq-eqb _ _ (c .before .before .before .before .if1 .left), handed resOfU32 (c .before .before .before .read-count .ensures) (c .before .enum-told5 .given .1) (c .why-u323 .ensures) refl)
+returns-6 c =
+    let after-t = c .before .before .before .before .before .before in
+    let after-g = after-t .before .before .before .before in
+    let after-m = after-g .before .before .before .before in
+    let after-a = after-m .before .before .before .before in
+    rw (
+      came resOfRange (after-a .before .before .read-range .ensures) (after-a .a .given .1),
+      came resOfU32 (after-m .before .before .read-u32 .ensures) (after-m .m .given .1),
+      came answerOfIomode (after-g .before .before .grant-iomode .ensures) (after-g .g .given .1),
+      came resOfU32 (after-t .before .before .read-u322 .ensures) (after-t .t .given .1),
+      eq-eqb _ _ (c .before .before .before .before .if1 .left),
+      handed resOfU32 (c .before .before .before .read-count .ensures) (c .before .enum-told5 .given .1)
+          (c .why-u323 .ensures) refl,
+    )
 
 returns-7 : tie.Need-returns-7
 unfolding frameAt then asItem pick
-returns-7 c = rw (came resOfRange (c .before .before .before .before .before .before .before .before .before .before .before .before .before .before .before .before .before .before .before .before .read-range .ensures) (c .before .before .before .before .before .before .before .before .before .before .before .before .before .before .before .before .before .before .a .given .1), came resOfU32 (c .before .before .before .before .before .before .before .before .before .before .before .before .before .before .before .before .read-u32 .ensures) (c .before .before .before .before .before .before .before .before .before .before .before .before .before .before .m .given .1), came answerOfIomode (c .before .before .before .before .before .before .before .before .before .before .before .before .grant-iomode .ensures) (c .before .before .before .before .before .before .before .before .before .before .g .given .1), came resOfU32 (c .before .before .before .before .before .before .before .before .read-u322 .ensures) (c .before .before .before .before .before .before .t .given .1), eq-eqb _ _ (c .before .before .before .before .if1 .left), came resOfU32 (c .before .before .before .read-count .ensures) (c .before .n .given .1))
+returns-7 c =
+    let after-t = c .before .before .before .before .before .before in
+    let after-g = after-t .before .before .before .before in
+    let after-m = after-g .before .before .before .before in
+    let after-a = after-m .before .before .before .before in
+    rw (
+      came resOfRange (after-a .before .before .read-range .ensures) (after-a .a .given .1),
+      came resOfU32 (after-m .before .before .read-u32 .ensures) (after-m .m .given .1),
+      came answerOfIomode (after-g .before .before .grant-iomode .ensures) (after-g .g .given .1),
+      came resOfU32 (after-t .before .before .read-u322 .ensures) (after-t .t .given .1),
+      eq-eqb _ _ (c .before .before .before .before .if1 .left),
+      came resOfU32 (c .before .before .before .read-count .ensures) (c .before .n .given .1),
+    )
 
 pub read-frame-spec : {M : Type 1} → statement M
 read-frame-spec =

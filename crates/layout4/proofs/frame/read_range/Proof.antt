@@ -39,7 +39,13 @@ why-u64-requires-2 c κs = search needs
 
 returns-2 : tie.Need-returns-2
 unfolding rangeAt then asItem
-returns-2 c = rw (came resOfU64 (c .before .before .before .before .before .before .before .read-u64 .ensures) (c .before .before .before .before .before .o .given .1), handed resOfU64 (c .before .before .before .read-u642 .ensures) (c .before .enum-told2 .given .1) (c .why-u642 .ensures) refl)
+returns-2 c =
+    let after-o = c .before .before .before .before .before in
+    rw (
+      came resOfU64 (after-o .before .before .read-u64 .ensures) (after-o .o .given .1),
+      handed resOfU64 (c .before .before .before .read-u642 .ensures) (c .before .enum-told2 .given .1)
+          (c .why-u642 .ensures) refl,
+    )
 
 range-last-requires : tie.Need-range-last-requires
 range-last-requires c κs = search needs
@@ -55,11 +61,26 @@ why-last-requires c κs = search needs
 
 returns-3 : tie.Need-returns-3
 unfolding rangeAt then asItem
-returns-3 c = rw (came resOfU64 (c .before .before .before .before .before .before .before .before .before .before .before .read-u64 .ensures) (c .before .before .before .before .before .before .before .before .before .o .given .1), came resOfU64 (c .before .before .before .before .before .before .before .read-u642 .ensures) (c .before .before .before .before .before .n .given .1), handed-answer answerOfLast (c .before .before .before .range-last .ensures) (c .before .enum-told3 .given .1) (c .why-last .ensures) refl)
+returns-3 c =
+    let after-n = c .before .before .before .before .before in
+    let after-o = after-n .before .before .before .before in
+    rw (
+      came resOfU64 (after-o .before .before .read-u64 .ensures) (after-o .o .given .1),
+      came resOfU64 (after-n .before .before .read-u642 .ensures) (after-n .n .given .1),
+      handed-answer answerOfLast (c .before .before .before .range-last .ensures) (c .before .enum-told3 .given .1)
+          (c .why-last .ensures) refl,
+    )
 
 returns-4 : tie.Need-returns-4
 unfolding rangeAt then asItem
-returns-4 c = rw (came resOfU64 (c .before .before .before .before .before .before .before .before .before .before .before .read-u64 .ensures) (c .before .before .before .before .before .before .before .before .before .o .given .1), came resOfU64 (c .before .before .before .before .before .before .before .read-u642 .ensures) (c .before .before .before .before .before .n .given .1), came answerOfLast (c .before .before .before .range-last .ensures) (c .before .e .given .1))
+returns-4 c =
+    let after-n = c .before .before .before .before .before in
+    let after-o = after-n .before .before .before .before in
+    rw (
+      came resOfU64 (after-o .before .before .read-u64 .ensures) (after-o .o .given .1),
+      came resOfU64 (after-n .before .before .read-u642 .ensures) (after-n .n .given .1),
+      came answerOfLast (c .before .before .before .range-last .ensures) (c .before .e .given .1),
+    )
 
 pub read-range-spec : {M : Type 1} → statement M
 read-range-spec =

@@ -33,7 +33,12 @@ refused-requires : tie.Need-refused-requires
 refused-requires c κs = search needs
 
 returns : tie.Need-returns
-returns c = refused-whole _ _ _ _ (c .refused .ensures .0) (c .refused .ensures .1) (frame-refused (now (c .before .before .before .before .before .before .args .s)) _ (handed resOfFrame (c .before .before .before .before .read-frame .ensures) (c .before .before .enum-told .given .1) (c .before .why-frame .ensures) refl))
+returns c =
+    let start = c .before .before .before .before .before .before in
+    refused-whole _ _ _ _ (c .refused .ensures .0) (c .refused .ensures .1)
+    (frame-refused (now (start .args .s)) _
+    (handed resOfFrame (c .before .before .before .before .read-frame .ensures)
+    (c .before .before .enum-told .given .1) (c .before .why-frame .ensures) refl))
 
 enough-requires : tie.Need-enough-requires
 enough-requires c κs = search needs
@@ -42,16 +47,23 @@ refused-requires-2 : tie.Need-refused-requires-2
 refused-requires-2 c κs = search needs
 
 returns-2 : tie.Need-returns-2
-returns-2 c = refused-whole _ _ _ _ (c .refused2 .ensures .0) (c .refused2 .ensures .1) (body-short (now (c .before .before .before .before .before .before .before .before .args .s)) _ _ (came resOfFrame (c .before .before .before .before .before .before .read-frame .ensures) (c .before .before .before .before .f .given .1)) (sym (c .before .before .enough .ensures) ∙ not-true _ (c .before .if1 .taken)))
+returns-2 c =
+    let after-f = c .before .before .before .before in
+    refused-whole _ _ _ _ (c .refused2 .ensures .0) (c .refused2 .ensures .1)
+    (body-short (now (after-f .before .before .before .before .args .s)) _ _
+    (came resOfFrame (after-f .before .before .read-frame .ensures) (after-f .f .given .1))
+    (sym (c .before .before .enough .ensures) ∙ not-true _ (c .before .if1 .taken)))
 
 cast-end : tie.Need-cast-end
 cast-end c = search needs
 
 add-end : tie.Need-add-end
 add-end c =
-    let at = c .before .before .before .before .f .given .0 .1 .0 .at in
-    let size = c .before .before .before .before .f .given .0 .0 .size in
-    let h : at + size + padding size ≤ length (now (c .before .before .before .before .before .before .before .before .args .s)) = leb-true _ _ (sym (c .before .before .enough .ensures) ∙ not-false _ (c .before .if1 .left)) in
+    let after-f = c .before .before .before .before in
+    let at = after-f .f .given .0 .1 .0 .at in
+    let size = after-f .f .given .0 .0 .size in
+    let h : at + size + padding size ≤ length (now (after-f .before .before .before .before .args .s)) =
+    leb-true _ _ (sym (c .before .before .enough .ensures) ∙ not-false _ (c .before .if1 .left)) in
     omega arith
 
 sub-read-layout : tie.Need-sub-read-layout
@@ -62,9 +74,11 @@ part-read-layout-start c = search needs
 
 part-read-layout-end : tie.Need-part-read-layout-end
 part-read-layout-end c =
-    let at = c .before .before .before .before .f .given .0 .1 .0 .at in
-    let size = c .before .before .before .before .f .given .0 .0 .size in
-    let h : at + size + padding size ≤ length (now (c .before .before .before .before .before .before .before .before .args .s)) = leb-true _ _ (sym (c .before .before .enough .ensures) ∙ not-false _ (c .before .if1 .left)) in
+    let after-f = c .before .before .before .before in
+    let at = after-f .f .given .0 .1 .0 .at in
+    let size = after-f .f .given .0 .0 .size in
+    let h : at + size + padding size ≤ length (now (after-f .before .before .before .before .args .s)) =
+    leb-true _ _ (sym (c .before .before .enough .ensures) ∙ not-false _ (c .before .if1 .left)) in
     omega arith
 
 read-layout-requires : tie.Need-read-layout-requires
@@ -84,10 +98,18 @@ refused-requires-3 c κs = search needs
 
 returns-3 : tie.Need-returns-3
 returns-3 c =
-    let size = c .before .before .before .before .before .before .before .before .before .before .f .given .0 .0 .size in
-    let e : c .before .before .before .before .before .before .before .before .before .before .f .given .0 .1 .0 .at + size - c .before .before .before .before .before .before .before .before .before .before .f .given .0 .1 .0 .at ≡ size = omega arith in
+    let after-if1 = c .before .before .before .before .before .before .before in
+    let after-f = after-if1 .before .before .before in
+    let size = after-f .f .given .0 .0 .size in
+    let e : after-f .f .given .0 .1 .0 .at + size - after-f .f .given .0 .1 .0 .at ≡ size = omega arith in
     let read = rw e at (c .before .before .before .before .read-layout .ensures .0) in
-    refused-whole _ _ _ _ (c .refused3 .ensures .0) (c .refused3 .ensures .1) (body-refused (now (c .before .before .before .before .before .before .before .before .before .before .before .before .before .before .args .s)) _ _ (came resOfFrame (c .before .before .before .before .before .before .before .before .before .before .before .before .read-frame .ensures) (c .before .before .before .before .before .before .before .before .before .before .f .given .1)) (sym (c .before .before .before .before .before .before .before .before .enough .ensures) ∙ not-false _ (c .before .before .before .before .before .before .before .if1 .left)) _ (handed-answer-from (λ (r : LayoutAnswer). answerOfLayout r []) (λ (r : LayoutAnswer). answerOfLayout r (c .before .before .before .before .read-layout .result .starts)) read (c .before .before .enum-told2 .given .1) (c .before .why-layout .ensures) refl refl))
+    refused-whole _ _ _ _ (c .refused3 .ensures .0) (c .refused3 .ensures .1)
+    (body-refused (now (after-f .before .before .before .before .args .s)) _ _
+    (came resOfFrame (after-f .before .before .read-frame .ensures) (after-f .f .given .1))
+    (sym (after-if1 .before .enough .ensures) ∙ not-false _ (after-if1 .if1 .left)) _
+    (handed-answer-from (λ (r : LayoutAnswer). answerOfLayout r [])
+    (λ (r : LayoutAnswer). answerOfLayout r (c .before .before .before .before .read-layout .result .starts)) read
+    (c .before .before .enum-told2 .given .1) (c .before .why-layout .ensures) refl refl))
 
 cast-read-bytes : tie.Need-cast-read-bytes
 cast-read-bytes c = search needs
@@ -109,30 +131,61 @@ refused-requires-4 c κs = search needs
 
 returns-4 : tie.Need-returns-4
 returns-4 c =
-    let size = c .before .before .before .before .before .before .before .before .before .before .before .before .before .before .before .f .given .0 .0 .size in
-    let e : c .before .before .before .before .before .before .before .before .before .before .before .before .before .before .before .f .given .0 .1 .0 .at + size - c .before .before .before .before .before .before .before .before .before .before .before .before .before .before .before .f .given .0 .1 .0 .at ≡ size = omega arith in
-    let read = rw e at (c .before .before .before .before .before .before .before .before .before .read-layout .ensures .0) in
-    refused-whole _ _ _ _ (c .refused4 .ensures .0) (c .refused4 .ensures .1) (padding-refused (now (c .before .before .before .before .before .before .before .before .before .before .before .before .before .before .before .before .before .before .before .args .s)) _ _ (came resOfFrame (c .before .before .before .before .before .before .before .before .before .before .before .before .before .before .before .before .before .read-frame .ensures) (c .before .before .before .before .before .before .before .before .before .before .before .before .before .before .before .f .given .1)) (sym (c .before .before .before .before .before .before .before .before .before .before .before .before .before .enough .ensures) ∙ not-false _ (c .before .before .before .before .before .before .before .before .before .before .before .before .if1 .left)) _ (came (λ (r : LayoutAnswer). answerOfLayout r (c .before .before .before .before .before .before .before .before .before .read-layout .result .starts)) read (c .before .before .before .before .before .before .before .a .given .1)) _ (handed resOfPart (c .before .before .before .before .read-bytes .ensures) (c .before .before .enum-told3 .given .1) (c .before .why-part .ensures) refl))
+    let after-a = c .before .before .before .before .before .before .before in
+    let after-if1 = after-a .before .before .before .before .before in
+    let after-f = after-if1 .before .before .before in
+    let size = after-f .f .given .0 .0 .size in
+    let e : after-f .f .given .0 .1 .0 .at + size - after-f .f .given .0 .1 .0 .at ≡ size = omega arith in
+    let read = rw e at (after-a .before .before .read-layout .ensures .0) in
+    refused-whole _ _ _ _ (c .refused4 .ensures .0) (c .refused4 .ensures .1)
+    (padding-refused (now (after-f .before .before .before .before .args .s)) _ _
+    (came resOfFrame (after-f .before .before .read-frame .ensures) (after-f .f .given .1))
+    (sym (after-if1 .before .enough .ensures) ∙ not-false _ (after-if1 .if1 .left)) _
+    (came (λ (r : LayoutAnswer). answerOfLayout r (after-a .before .before .read-layout .result .starts)) read
+    (after-a .a .given .1)) _
+    (handed resOfPart (c .before .before .before .before .read-bytes .ensures)
+    (c .before .before .enum-told3 .given .1) (c .before .why-part .ensures) refl))
 
 refused-requires-5 : tie.Need-refused-requires-5
 refused-requires-5 c κs = search needs
 
 returns-5 : tie.Need-returns-5
 returns-5 c =
-    let size = c .before .before .before .before .before .before .before .before .before .before .before .before .before .before .before .before .before .f .given .0 .0 .size in
-    let e : c .before .before .before .before .before .before .before .before .before .before .before .before .before .before .before .before .before .f .given .0 .1 .0 .at + size - c .before .before .before .before .before .before .before .before .before .before .before .before .before .before .before .before .before .f .given .0 .1 .0 .at ≡ size = omega arith in
-    let read = rw e at (c .before .before .before .before .before .before .before .before .before .before .before .read-layout .ensures .0) in
-    refused-whole _ _ _ _ (c .refused5 .ensures .0) (c .refused5 .ensures .1) (left-over (now (c .before .before .before .before .before .before .before .before .before .before .before .before .before .before .before .before .before .before .before .before .before .args .s)) _ _ (came resOfFrame (c .before .before .before .before .before .before .before .before .before .before .before .before .before .before .before .before .before .before .before .read-frame .ensures) (c .before .before .before .before .before .before .before .before .before .before .before .before .before .before .before .before .before .f .given .1)) (sym (c .before .before .before .before .before .before .before .before .before .before .before .before .before .before .before .enough .ensures) ∙ not-false _ (c .before .before .before .before .before .before .before .before .before .before .before .before .before .before .if1 .left)) _ (came (λ (r : LayoutAnswer). answerOfLayout r (c .before .before .before .before .before .before .before .before .before .before .before .read-layout .result .starts)) read (c .before .before .before .before .before .before .before .before .before .a .given .1)) _ _ (came resOfPart (c .before .before .before .before .before .before .read-bytes .ensures) (c .before .before .before .before .p .given .1)) (c .before .if2 .taken))
+    let after-p = c .before .before .before .before in
+    let after-a = after-p .before .before .before .before .before in
+    let after-if1 = after-a .before .before .before .before .before in
+    let after-f = after-if1 .before .before .before in
+    let size = after-f .f .given .0 .0 .size in
+    let e : after-f .f .given .0 .1 .0 .at + size - after-f .f .given .0 .1 .0 .at ≡ size = omega arith in
+    let read = rw e at (after-a .before .before .read-layout .ensures .0) in
+    refused-whole _ _ _ _ (c .refused5 .ensures .0) (c .refused5 .ensures .1)
+    (left-over (now (after-f .before .before .before .before .args .s)) _ _
+    (came resOfFrame (after-f .before .before .read-frame .ensures) (after-f .f .given .1))
+    (sym (after-if1 .before .enough .ensures) ∙ not-false _ (after-if1 .if1 .left)) _
+    (came (λ (r : LayoutAnswer). answerOfLayout r (after-a .before .before .read-layout .result .starts)) read
+    (after-a .a .given .1)) _ _ (came resOfPart (after-p .before .before .read-bytes .ensures) (after-p .p .given .1))
+    (c .before .if2 .taken))
 
 layout4-in-requires : tie.Need-layout4-in-requires
 layout4-in-requires c κs = search needs
 
 returns-6 : tie.Need-returns-6
 returns-6 c =
-    let size = c .before .before .before .before .before .before .before .before .before .before .before .before .before .before .before .before .before .before .f .given .0 .0 .size in
-    let e : c .before .before .before .before .before .before .before .before .before .before .before .before .before .before .before .before .before .before .f .given .0 .1 .0 .at + size - c .before .before .before .before .before .before .before .before .before .before .before .before .before .before .before .before .before .before .f .given .0 .1 .0 .at ≡ size = omega arith in
-    let read = rw e at (c .before .before .before .before .before .before .before .before .before .before .before .before .read-layout .ensures .0) in
-    rw (c .layout4-in .ensures) (accepted-whole _ _ _ _ (all-read (now (c .before .before .before .before .before .before .before .before .before .before .before .before .before .before .before .before .before .before .before .before .before .before .args .s)) _ _ (came resOfFrame (c .before .before .before .before .before .before .before .before .before .before .before .before .before .before .before .before .before .before .before .before .read-frame .ensures) (c .before .before .before .before .before .before .before .before .before .before .before .before .before .before .before .before .before .before .f .given .1)) (sym (c .before .before .before .before .before .before .before .before .before .before .before .before .before .before .before .before .enough .ensures) ∙ not-false _ (c .before .before .before .before .before .before .before .before .before .before .before .before .before .before .before .if1 .left)) _ (came (λ (r : LayoutAnswer). answerOfLayout r (c .before .before .before .before .before .before .before .before .before .before .before .before .read-layout .result .starts)) read (c .before .before .before .before .before .before .before .before .before .before .a .given .1)) _ _ (came resOfPart (c .before .before .before .before .before .before .before .read-bytes .ensures) (c .before .before .before .before .before .p .given .1)) (c .before .before .if2 .left)))
+    let after-p = c .before .before .before .before .before in
+    let after-a = after-p .before .before .before .before .before in
+    let after-if1 = after-a .before .before .before .before .before in
+    let after-f = after-if1 .before .before .before in
+    let size = after-f .f .given .0 .0 .size in
+    let e : after-f .f .given .0 .1 .0 .at + size - after-f .f .given .0 .1 .0 .at ≡ size = omega arith in
+    let read = rw e at (after-a .before .before .read-layout .ensures .0) in
+    rw (c .layout4-in .ensures)
+    (accepted-whole _ _ _ _
+    (all-read (now (after-f .before .before .before .before .args .s)) _ _
+    (came resOfFrame (after-f .before .before .read-frame .ensures) (after-f .f .given .1))
+    (sym (after-if1 .before .enough .ensures) ∙ not-false _ (after-if1 .if1 .left)) _
+    (came (λ (r : LayoutAnswer). answerOfLayout r (after-a .before .before .read-layout .result .starts)) read
+    (after-a .a .given .1)) _ _ (came resOfPart (after-p .before .before .read-bytes .ensures) (after-p .p .given .1))
+    (c .before .before .if2 .left)))
 
 pub read-layout4-spec : {M : Type 1} → statement M
 read-layout4-spec =

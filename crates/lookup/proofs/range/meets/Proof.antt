@@ -42,9 +42,12 @@ any-meets-requires c κs = search needs
 returns : tie.Need-returns Inv-loop μ-loop
 unfolding tableMeets
 returns c =
-    let a = c .before .before .before .before .before .before .before .args in
-    let e = ap (inList (a .s) (a .c)) (sym (c .before .before .list-in .ensures)) ∙ (sym (c .before .any-meets .ensures) ∙ c .if2 .taken) in
-    sym (one-is (test (a .t) (a .s) (a .c)) (c .before .before .before .before .before .before .loop .i) (rw (sym (c .before .before .before .before .acts-on .ensures) ∙ c .before .before .before .if1 .taken) e))
+    let after-if1 = c .before .before .before in
+    let a = after-if1 .before .before .before .before .args in
+    let e = ap (inList (a .s) (a .c)) (sym (c .before .before .list-in .ensures))
+    ∙ (sym (c .before .any-meets .ensures) ∙ c .if2 .taken) in
+    sym (one-is (test (a .t) (a .s) (a .c)) (after-if1 .before .before .before .loop .i)
+    (rw (sym (after-if1 .before .acts-on .ensures) ∙ after-if1 .if1 .taken) e))
 
 add-i : tie.Need-add-i Inv-loop μ-loop
 add-i c = omega arith

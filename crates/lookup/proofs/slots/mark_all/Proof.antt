@@ -45,11 +45,17 @@ loop-less c = search needs
 
 loop-again : tie.Need-loop-again Inv-loop μ-loop
 loop-again c =
-    let l = c .before .before .before .before .loop in
-    let g = c .before .before .before .before .before .before .args .t2 in
+    let at-loop = c .before .before .before .before in
+    let l = at-loop .loop in
+    let g = at-loop .before .before .args .t2 in
     let h : length (g .items) ≡ 32 = search (needs, mapped-long) in
-    let e : length (listOf g) ≡ min (g .count) 32 = length-used g h in
-    (omega arith, c .mark .ensures .0, λ i b. l .inv .2 i b ∙ (marked-next i g (l .k) blank (getD (l .named) i false) (omega arith) ∙ ap (λ (x : Bool). anyNames i (drop (l .k + 1) (listOf g)) || x) (sym (c .mark .ensures .1 i b))))
+    let e : length (listOf g) ≡ min (g .count) 32 = length-used g h in (
+      omega arith,
+      c .mark .ensures .0,
+      λ i b. l .inv .2 i b
+          ∙ (marked-next i g (l .k) blank (getD (l .named) i false) (omega arith)
+          ∙ ap (λ (x : Bool). anyNames i (drop (l .k + 1) (listOf g)) || x) (sym (c .mark .ensures .1 i b))),
+    )
 
 returns : tie.Need-returns Inv-loop μ-loop
 returns c =

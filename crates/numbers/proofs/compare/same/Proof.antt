@@ -33,8 +33,13 @@ same-run-requires c κs = search needs
 
 returns-2 : tie.Need-returns-2 Inv-loop μ-loop
 returns-2 c =
+    let start = c .before .before .before .before .before .before .before in
     let l = c .before .before .before .loop in
-    rw (l .inv .2, block-first 256 (l .p) (now (c .before .before .before .before .before .before .before .args .s)) (now (c .before .before .before .before .before .before .before .args .t)) (l .inv .1), sym (c .before .same-run .ensures) ∙ not-true _ (c .if2 .taken))
+    rw (
+      l .inv .2,
+      block-first 256 (l .p) (now (start .args .s)) (now (start .args .t)) (l .inv .1),
+      sym (c .before .same-run .ensures) ∙ not-true _ (c .if2 .taken),
+    )
 
 add-p : tie.Need-add-p Inv-loop μ-loop
 add-p c = search needs
@@ -44,8 +49,16 @@ loop-less c = search needs
 
 loop-again : tie.Need-loop-again Inv-loop μ-loop
 loop-again c =
-    let l = c .before .before .before .loop in
-    (omega arith, l .inv .1, rw (l .inv .2, block-first 256 (l .p) (now (c .before .before .before .before .before .before .before .args .s)) (now (c .before .before .before .before .before .before .before .args .t)) (l .inv .1), sym (c .before .same-run .ensures) ∙ not-false _ (c .if2 .left)))
+    let start = c .before .before .before .before .before .before .before in
+    let l = c .before .before .before .loop in (
+      omega arith,
+      l .inv .1,
+      rw (
+        l .inv .2,
+        block-first 256 (l .p) (now (start .args .s)) (now (start .args .t)) (l .inv .1),
+        sym (c .before .same-run .ensures) ∙ not-false _ (c .if2 .left),
+      ),
+    )
 
 sub-same-run : tie.Need-sub-same-run Inv-loop μ-loop
 sub-same-run c = search needs
@@ -55,12 +68,15 @@ same-run-requires-2 c κs = search needs
 
 returns-3 : tie.Need-returns-3 Inv-loop μ-loop
 returns-3 c =
+    let start = c .before .before .before .before .before .before in
     let l = c .before .before .loop in
-    let s = now (c .before .before .before .before .before .before .args .s) in
-    let t = now (c .before .before .before .before .before .before .args .t) in
+    let s = now (start .args .s) in
+    let t = now (start .args .t) in
     let h : length (drop (l .p) s) ≤ length s - l .p = simp length-drop (omega arith) in
     let k : length (drop (l .p) t) ≤ length s - l .p = simp length-drop (omega (arith, l .inv .1)) in
-    rw (l .inv .2) (c .same-run2 .ensures ∙ ap₂ sameBytes (take-all (length s - l .p) (drop (l .p) s) h) (take-all (length s - l .p) (drop (l .p) t) k))
+    rw (l .inv .2)
+    (c .same-run2 .ensures
+    ∙ ap₂ sameBytes (take-all (length s - l .p) (drop (l .p) s) h) (take-all (length s - l .p) (drop (l .p) t) k))
 
 pub same-spec : {M : Type 1} → statement M
 same-spec =

@@ -36,8 +36,13 @@ zero-run-requires c κs = search needs
 
 returns-2 : tie.Need-returns-2 Inv-loop μ-loop
 returns-2 c =
-    let l = c .before .before .before .loop in
-    rw (l .inv .1, block-first 256 (now (c .before .before .before .before .before .before .args .s)) (l .p), sym (c .before .zero-run .ensures) ∙ not-true _ (c .if2 .taken))
+    let at-loop = c .before .before .before in
+    let l = at-loop .loop in
+    rw (
+      l .inv .1,
+      block-first 256 (now (at-loop .before .before .before .args .s)) (l .p),
+      sym (c .before .zero-run .ensures) ∙ not-true _ (c .if2 .taken),
+    )
 
 add-p : tie.Need-add-p Inv-loop μ-loop
 add-p c = search needs
@@ -47,8 +52,15 @@ loop-less c = search needs
 
 loop-again : tie.Need-loop-again Inv-loop μ-loop
 loop-again c =
-    let l = c .before .before .before .loop in
-    (omega arith, rw (l .inv .1, block-first 256 (now (c .before .before .before .before .before .before .args .s)) (l .p), sym (c .before .zero-run .ensures) ∙ not-false _ (c .if2 .left)))
+    let at-loop = c .before .before .before in
+    let l = at-loop .loop in (
+      omega arith,
+      rw (
+        l .inv .1,
+        block-first 256 (now (at-loop .before .before .before .args .s)) (l .p),
+        sym (c .before .zero-run .ensures) ∙ not-false _ (c .if2 .left),
+      ),
+    )
 
 sub-zero-run : tie.Need-sub-zero-run Inv-loop μ-loop
 sub-zero-run c = search needs

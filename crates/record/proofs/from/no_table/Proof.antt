@@ -1,3 +1,4 @@
+-- `record::from::no_table` meets its contract: the table is what `empty_table` gives.
 use borrow.Author.Needs.{needs}
 use Rattle.record.proofs.from.no_table.Statement.{statement}
 use Rattle.record.proofs.from.no_table.Tie as tie

@@ -43,10 +43,14 @@ no-table-requires c κs = search needs
 
 returns : tie.Need-returns Inv-loop μ-loop
 returns c =
-    let l = c .before .before .before .before .before .before .loop in
-    let r = c .before .before .before .before .before .before .before .args .t1 in
+    let at-loop = c .before .before .before .before .before .before in
+    let l = at-loop .loop in
+    let r = at-loop .before .args .t1 in
     let p : length (r .read) ≡ 32 = search (needs, mapped-long) in
-    c .no-table .ensures ∙ none-left r 20 (made-stops (r .read) (l .read .items) (l .i) _ (omega arith) (l .inv .3) 20 (sym (c .before .before .before .segment-of .ensures) ∙ ap answerOfSegment (c .before .enum-told .given .1)))
+    c .no-table .ensures
+    ∙ none-left r 20
+    (made-stops (r .read) (l .read .items) (l .i) _ (omega arith) (l .inv .3) 20
+    (sym (c .before .before .before .segment-of .ensures) ∙ ap answerOfSegment (c .before .enum-told .given .1)))
 
 mul-s : tie.Need-mul-s Inv-loop μ-loop
 mul-s c = omega arith
@@ -93,15 +97,19 @@ loop-less c = omega arith
 
 loop-again : tie.Need-loop-again Inv-loop μ-loop
 loop-again c =
-    let l = c .before .before .before .before .before .before .before .before .before .before .before .loop in
-    let r = c .before .before .before .before .before .before .before .before .before .before .before .before .args .t1 in
+    let after-x = c .before .before .before .before .before .before in
+    let at-loop = after-x .before .before .before .before .before in
+    let l = at-loop .loop in
+    let r = at-loop .before .args .t1 in
     let p : length (r .read) ≡ 32 = search (needs, mapped-long) in
     let q : length (r .rw) ≡ 32 = search (needs, mapped-long) in (
       omega arith,
       simp length-set (l .inv .1),
       simp length-set (l .inv .2),
-      made-one (r .read) (l .read .items) (l .i) _ (omega arith) (l .inv .3) _ (omega arith) (sym (c .before .before .before .before .before .before .before .before .segment-of .ensures) ∙ ap answerOfSegment (c .before .before .before .before .before .before .x .given .1)),
-      made-one (r .rw) (l .rw .items) (l .i) _ (omega arith) (l .inv .4) _ (omega arith) (sym (c .before .before .before .segment-of2 .ensures) ∙ ap answerOfSegment (c .before .y .given .1)),
+      made-one (r .read) (l .read .items) (l .i) _ (omega arith) (l .inv .3) _ (omega arith)
+          (sym (after-x .before .before .segment-of .ensures) ∙ ap answerOfSegment (after-x .x .given .1)),
+      made-one (r .rw) (l .rw .items) (l .i) _ (omega arith) (l .inv .4) _ (omega arith)
+          (sym (c .before .before .before .segment-of2 .ensures) ∙ ap answerOfSegment (c .before .y .given .1)),
       l .inv .5,
       l .inv .6,
     )

@@ -62,15 +62,18 @@ loop-less c = omega arith
 
 loop-again : tie.Need-loop-again Inv-loop μ-loop
 loop-again c =
-    let l = c .before .before .before .before .before .loop in
-    let t = c .before .before .before .before .before .before .before .before .args .t in
+    let at-loop = c .before .before .before .before .before in
+    let l = at-loop .loop in
+    let t = at-loop .before .before .before .args .t in
     let p : length (t .read .items) ≡ 32 = search (needs, mapped-long) in
     let q : length (t .rw .items) ≡ 32 = search (needs, mapped-long) in (
       omega arith,
       simp length-set (l .inv .1),
       simp length-set (l .inv .2),
-      rw (c .before .before .segment-record .ensures) (map-next segmentRecord (t .read .items) (l .r .read) (l .i) blank (omega arith) (omega arith) (l .inv .3)),
-      rw (c .segment-record2 .ensures) (map-next segmentRecord (t .rw .items) (l .r .rw) (l .i) blank (omega arith) (omega arith) (l .inv .4)),
+      rw (c .before .before .segment-record .ensures)
+          (map-next segmentRecord (t .read .items) (l .r .read) (l .i) blank (omega arith) (omega arith) (l .inv .3)),
+      rw (c .segment-record2 .ensures)
+          (map-next segmentRecord (t .rw .items) (l .r .rw) (l .i) blank (omega arith) (omega arith) (l .inv .4)),
       l .inv .5,
       l .inv .6,
     )

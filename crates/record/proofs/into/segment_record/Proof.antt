@@ -1,4 +1,4 @@
--- `record::into::segment_record` meets its contract.
+-- `record::into::segment_record` meets its contract: the kind and the slot of the right, each from its callee.
 use borrow.Author.Needs.{needs}
 use Rattle.record.proofs.into.segment_record.Statement.{statement}
 use Rattle.record.proofs.into.segment_record.Tie as tie

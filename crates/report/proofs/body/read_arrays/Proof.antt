@@ -46,12 +46,22 @@ why-report-requires c κs = search needs
 
 returns : tie.Need-returns Inv-loop μ-loop
 returns c =
-    let l = c .before .before .before .before .before .loop in
-    let s = now (c .before .before .before .before .before .before .before .before .args .s) in
-    rw (l .inv .7, arrays-refused (l .inv .0) (c .before .before .before .before .before .before .before .before .args .n - l .i) s (l .d .at) _ (omega arith) (handed-from (resOfReport []) (resOfReport s) (c .before .before .before .read-report .ensures) (c .before .enum-told .given .1) (c .why-report .ensures) refl refl))
+    let at-loop = c .before .before .before .before .before in
+    let l = at-loop .loop in
+    let s = now (at-loop .before .before .before .args .s) in
+    rw (
+      l .inv .7,
+      arrays-refused (l .inv .0) (at-loop .before .before .before .args .n - l .i) s (l .d .at) _ (omega arith)
+          (handed-from (resOfReport []) (resOfReport s) (c .before .before .before .read-report .ensures)
+          (c .before .enum-told .given .1) (c .why-report .ensures) refl refl),
+    )
 
 head-of-requires : tie.Need-head-of-requires Inv-loop μ-loop
-head-of-requires c κs = stateid-inside (now (c .before .before .before .before .before .before .before .before .args .s)) (c .before .before .before .before .before .loop .d .at) _ _ _ (came (resOfReport (now (c .before .before .before .before .before .before .before .before .args .s))) (c .before .before .before .read-report .ensures) (c .before .r .given .1))
+head-of-requires c κs =
+    let at-loop = c .before .before .before .before .before in
+    stateid-inside (now (at-loop .before .before .before .args .s)) (at-loop .loop .d .at) _ _ _
+    (came (resOfReport (now (at-loop .before .before .before .args .s)))
+    (c .before .before .before .read-report .ensures) (c .before .r .given .1))
 
 mul-heads : tie.Need-mul-heads Inv-loop μ-loop
 mul-heads c = search needs
@@ -73,12 +83,14 @@ loop-less c = search needs
 
 loop-again : tie.Need-loop-again Inv-loop μ-loop
 loop-again c =
-    let l = c .before .before .before .before .before .before .loop in
-    let s = now (c .before .before .before .before .before .before .before .before .before .args .s) in
-    let e : c .before .before .before .before .before .before .before .before .before .args .n - (l .i + 1) ≡ c .before .before .before .before .before .before .before .before .before .args .n - l .i - 1 = omega arith in
-    let r : Report = record { head = headFrom s (c .before .before .r .given .0 .0); errors-at = c .before .before .r .given .0 .1 .0 } in
+    let after-r = c .before .before in
+    let start = after-r .before .before .before .before .before .before .before in
+    let l = after-r .before .before .before .before .loop in
+    let s = now (start .args .s) in
+    let e : start .args .n - (l .i + 1) ≡ start .args .n - l .i - 1 = omega arith in
+    let r : Report = record { head = headFrom s (after-r .r .given .0 .0); errors-at = after-r .r .given .0 .1 .0 } in
     let n : length (l .inv .0 ++ (r ∷ [])) ≡ l .i + 1 = simp length-append (omega (arith, l .inv .1)) in
-    let k = came (resOfReport s) (c .before .before .before .before .read-report .ensures) (c .before .before .r .given .1) in (
+    let k = came (resOfReport s) (after-r .before .before .read-report .ensures) (after-r .r .given .1) in (
       l .inv .0 ++ (r ∷ []),
       n,
       omega arith,
@@ -86,7 +98,7 @@ loop-again c =
       l .inv .4,
       rw (l .inv .5, c .head-of .ensures, heads-next (l .inv .0) (l .i) r (l .inv .1) (omega arith)),
       rw (l .inv .6, places-next (l .inv .0) (l .i) r (l .inv .1) (omega arith)),
-      rw (l .inv .7, e, arrays-next (l .inv .0) (c .before .before .before .before .before .before .before .before .before .args .n - l .i) s (l .d .at) r _ (omega arith) k),
+      rw (l .inv .7, e, arrays-next (l .inv .0) (start .args .n - l .i) s (l .d .at) r _ (omega arith) k),
     )
 
 returns-2 : tie.Need-returns-2 Inv-loop μ-loop

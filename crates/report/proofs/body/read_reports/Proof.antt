@@ -33,10 +33,14 @@ refused-requires c κs = search needs
 returns : tie.Need-returns
 unfolding then whole
 returns c =
+    let start = c .before .before .before .before .before .before in
     let r = c .before .before .before .before .reports-part .result in
     let w = faultNumber (c .before .why-end .result) in
-    let n = arrays-no _ w (handed-from resOfEnd (λ (e : ReadEnd). resOfArrays e (r .count) (r .heads) (r .«errors_at»)) (c .before .before .before .before .reports-part .ensures) (c .before .before .enum-told .given .1) (c .before .why-end .ensures) refl refl) in
-    answer-refused _ w _ _ _ (rw (body-ends (now (c .before .before .before .before .before .before .args .s)), n)) (c .refused .ensures)
+    let n = arrays-no _ w
+    (handed-from resOfEnd (λ (e : ReadEnd). resOfArrays e (r .count) (r .heads) (r .«errors_at»))
+    (c .before .before .before .before .reports-part .ensures) (c .before .before .enum-told .given .1)
+    (c .before .why-end .ensures) refl refl) in
+    answer-refused _ w _ _ _ (rw (body-ends (now (start .args .s)), n)) (c .refused .ensures)
 
 statistics-end-requires : tie.Need-statistics-end-requires
 statistics-end-requires c κs = search needs
@@ -56,12 +60,19 @@ refused-requires-2 c κs = search needs
 returns-2 : tie.Need-returns-2
 unfolding then whole
 returns-2 c =
-    let r = c .before .before .before .before .before .before .before .before .reports-part .result in
-    let s = now (c .before .before .before .before .before .before .before .before .before .before .args .s) in
-    let a = arrays-ok _ (r .count) (r .heads) (r .«errors_at») _ (came (λ (e : ReadEnd). resOfArrays e (r .count) (r .heads) (r .«errors_at»)) (c .before .before .before .before .before .before .before .before .reports-part .ensures) (c .before .before .before .before .before .before .end .given .1)) in
+    let after-end = c .before .before .before .before .before .before in
+    let r = after-end .before .before .reports-part .result in
+    let s = now (after-end .before .before .before .before .args .s) in
+    let a = arrays-ok _ (r .count) (r .heads) (r .«errors_at») _
+    (came (λ (e : ReadEnd). resOfArrays e (r .count) (r .heads) (r .«errors_at»))
+    (after-end .before .before .reports-part .ensures) (after-end .end .given .1)) in
     answer-refused _ (faultNumber (c .before .why-end2 .result)) _ _ _
-    (rw (body-ends s, a .were, handed resOfEnd (c .before .before .before .before .statistics-end .ensures) (c .before .before .enum-told2 .given .1) (c .before .why-end2 .ensures) refl))
-    (c .refused2 .ensures)
+    (rw (
+      body-ends s,
+      a .were,
+      handed resOfEnd (c .before .before .before .before .statistics-end .ensures)
+          (c .before .before .enum-told2 .given .1) (c .before .why-end2 .ensures) refl,
+    )) (c .refused2 .ensures)
 
 refused-requires-3 : tie.Need-refused-requires-3
 refused-requires-3 c κs = search needs
@@ -69,19 +80,34 @@ refused-requires-3 c κs = search needs
 returns-3 : tie.Need-returns-3
 unfolding then whole pick
 returns-3 c =
-    let r = c .before .before .before .before .before .before .before .before .before .before .reports-part .result in
-    let s = now (c .before .before .before .before .before .before .before .before .before .before .before .before .args .s) in
-    let a = arrays-ok _ (r .count) (r .heads) (r .«errors_at») _ (came (λ (e : ReadEnd). resOfArrays e (r .count) (r .heads) (r .«errors_at»)) (c .before .before .before .before .before .before .before .before .before .before .reports-part .ensures) (c .before .before .before .before .before .before .before .before .end .given .1)) in
-    answer-refused _ 2 _ _ _ (rw (body-ends s, a .were, came resOfEnd (c .before .before .before .before .before .before .statistics-end .ensures) (c .before .before .before .before .last .given .1), ne-eqb _ _ (c .before .if1 .taken))) (c .refused3 .ensures)
+    let after-last = c .before .before .before .before in
+    let after-end = after-last .before .before .before .before in
+    let r = after-end .before .before .reports-part .result in
+    let s = now (after-end .before .before .before .before .args .s) in
+    let a = arrays-ok _ (r .count) (r .heads) (r .«errors_at») _
+    (came (λ (e : ReadEnd). resOfArrays e (r .count) (r .heads) (r .«errors_at»))
+    (after-end .before .before .reports-part .ensures) (after-end .end .given .1)) in
+    answer-refused _ 2 _ _ _
+    (rw (
+      body-ends s,
+      a .were,
+      came resOfEnd (after-last .before .before .statistics-end .ensures) (after-last .last .given .1),
+      ne-eqb _ _ (c .before .if1 .taken),
+    )) (c .refused3 .ensures)
 
 returns-4 : tie.Need-returns-4
 returns-4 c =
-    let r = c .before .before .before .before .before .before .before .before .before .before .before .reports-part .result in
-    let s = now (c .before .before .before .before .before .before .before .before .before .before .before .before .before .args .s) in
-    let a = arrays-ok _ (r .count) (r .heads) (r .«errors_at») _ (came (λ (e : ReadEnd). resOfArrays e (r .count) (r .heads) (r .«errors_at»)) (c .before .before .before .before .before .before .before .before .before .before .before .reports-part .ensures) (c .before .before .before .before .before .before .before .before .before .end .given .1)) in
+    let after-last = c .before .before .before .before .before in
+    let after-end = after-last .before .before .before .before in
+    let r = after-end .before .before .reports-part .result in
+    let s = now (after-end .before .before .before .before .args .s) in
+    let a = arrays-ok _ (r .count) (r .heads) (r .«errors_at») _
+    (came (λ (e : ReadEnd). resOfArrays e (r .count) (r .heads) (r .«errors_at»))
+    (after-end .before .before .reports-part .ensures) (after-end .end .given .1)) in
     answer-accepted (reportBody s) (a .reports) _ _ _
-    (body-accepted s (a .reports) _ _ (a .were) (came resOfEnd (c .before .before .before .before .before .before .before .statistics-end .ensures) (c .before .before .before .before .before .last .given .1)) (c .before .before .if1 .left))
-    (ap accepted (a .count), a .heads, a .places)
+    (body-accepted s (a .reports) _ _ (a .were)
+    (came resOfEnd (after-last .before .before .statistics-end .ensures) (after-last .last .given .1))
+    (c .before .before .if1 .left)) (ap accepted (a .count), a .heads, a .places)
 
 pub read-reports-spec : {M : Type 1} → statement M
 read-reports-spec =

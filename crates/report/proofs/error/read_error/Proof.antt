@@ -40,7 +40,13 @@ why-u32-requires c κs = search needs
 
 returns-2 : tie.Need-returns-2
 unfolding errorAt then
-returns-2 c = rw (came resOfPart (c .before .before .before .before .before .before .before .read-bytes .ensures) (c .before .before .before .before .before .rd .given .1), handed resOfU32 (c .before .before .before .read-u32 .ensures) (c .before .enum-told2 .given .1) (c .why-u32 .ensures) refl)
+returns-2 c =
+    let after-rd = c .before .before .before .before .before in
+    rw (
+      came resOfPart (after-rd .before .before .read-bytes .ensures) (after-rd .rd .given .1),
+      handed resOfU32 (c .before .before .before .read-u32 .ensures) (c .before .enum-told2 .given .1)
+          (c .why-u32 .ensures) refl,
+    )
 
 read-u32-requires-2 : tie.Need-read-u32-requires-2
 read-u32-requires-2 c κs = search needs
@@ -56,18 +62,44 @@ why-u32-requires-2 c κs = search needs
 
 returns-3 : tie.Need-returns-3
 unfolding errorAt then
-returns-3 c = rw (came resOfPart (c .before .before .before .before .before .before .before .before .before .before .before .read-bytes .ensures) (c .before .before .before .before .before .before .before .before .before .rd .given .1), came resOfU32 (c .before .before .before .before .before .before .before .read-u32 .ensures) (c .before .before .before .before .before .rs .given .1), handed resOfU32 (c .before .before .before .read-u322 .ensures) (c .before .enum-told3 .given .1) (c .why-u322 .ensures) refl)
+returns-3 c =
+    let after-rs = c .before .before .before .before .before in
+    let after-rd = after-rs .before .before .before .before in
+    rw (
+      came resOfPart (after-rd .before .before .read-bytes .ensures) (after-rd .rd .given .1),
+      came resOfU32 (after-rs .before .before .read-u32 .ensures) (after-rs .rs .given .1),
+      handed resOfU32 (c .before .before .before .read-u322 .ensures) (c .before .enum-told3 .given .1)
+          (c .why-u322 .ensures) refl,
+    )
 
 error-fits-requires : tie.Need-error-fits-requires
 error-fits-requires c κs = search needs
 
 returns-4 : tie.Need-returns-4
 unfolding errorAt then pick
-returns-4 c = rw (came resOfPart (c .before .before .before .before .before .before .before .before .before .before .before .before .before .read-bytes .ensures) (c .before .before .before .before .before .before .before .before .before .before .before .rd .given .1), came resOfU32 (c .before .before .before .before .before .before .before .before .before .read-u32 .ensures) (c .before .before .before .before .before .before .before .rs .given .1), came resOfU32 (c .before .before .before .before .before .read-u322 .ensures) (c .before .before .before .ro .given .1), sym (c .before .error-fits .ensures) ∙ not-true _ (c .if1 .taken))
+returns-4 c =
+    let after-ro = c .before .before .before in
+    let after-rs = after-ro .before .before .before .before in
+    let after-rd = after-rs .before .before .before .before in
+    rw (
+      came resOfPart (after-rd .before .before .read-bytes .ensures) (after-rd .rd .given .1),
+      came resOfU32 (after-rs .before .before .read-u32 .ensures) (after-rs .rs .given .1),
+      came resOfU32 (after-ro .before .before .read-u322 .ensures) (after-ro .ro .given .1),
+      sym (c .before .error-fits .ensures) ∙ not-true _ (c .if1 .taken),
+    )
 
 returns-5 : tie.Need-returns-5
 unfolding errorAt then pick
-returns-5 c = rw (came resOfPart (c .before .before .before .before .before .before .before .before .before .before .before .before .before .read-bytes .ensures) (c .before .before .before .before .before .before .before .before .before .before .before .rd .given .1), came resOfU32 (c .before .before .before .before .before .before .before .before .before .read-u32 .ensures) (c .before .before .before .before .before .before .before .rs .given .1), came resOfU32 (c .before .before .before .before .before .read-u322 .ensures) (c .before .before .before .ro .given .1), sym (c .before .error-fits .ensures) ∙ not-false _ (c .if1 .left))
+returns-5 c =
+    let after-ro = c .before .before .before in
+    let after-rs = after-ro .before .before .before .before in
+    let after-rd = after-rs .before .before .before .before in
+    rw (
+      came resOfPart (after-rd .before .before .read-bytes .ensures) (after-rd .rd .given .1),
+      came resOfU32 (after-rs .before .before .read-u32 .ensures) (after-rs .rs .given .1),
+      came resOfU32 (after-ro .before .before .read-u322 .ensures) (after-ro .ro .given .1),
+      sym (c .before .error-fits .ensures) ∙ not-false _ (c .if1 .left),
+    )
 
 pub read-error-spec : {M : Type 1} → statement M
 read-error-spec =

@@ -35,8 +35,14 @@ why-error-requires c κs = search needs
 
 returns : tie.Need-returns Inv-loop μ-loop
 returns c =
-    let l = c .before .before .before .before .before .loop in
-    rw (l .inv, first-refuses errorAt (l .left) (now (c .before .before .before .before .before .before .before .args .s)) (l .d .at) _ (omega arith) (handed resOfError (c .before .before .before .read-error .ensures) (c .before .enum-told .given .1) (c .why-error .ensures) refl))
+    let at-loop = c .before .before .before .before .before in
+    let l = at-loop .loop in
+    rw (
+      l .inv,
+      first-refuses errorAt (l .left) (now (at-loop .before .before .args .s)) (l .d .at) _ (omega arith)
+          (handed resOfError (c .before .before .before .read-error .ensures) (c .before .enum-told .given .1)
+          (c .why-error .ensures) refl),
+    )
 
 sub-left : tie.Need-sub-left Inv-loop μ-loop
 sub-left c = search needs
@@ -46,8 +52,11 @@ loop-less c = search needs
 
 loop-again : tie.Need-loop-again Inv-loop μ-loop
 loop-again c =
-    let l = c .before .before .before .before .before .loop in
-    l .inv ∙ others-end errorAt (l .left) (now (c .before .before .before .before .before .before .before .args .s)) (l .d .at) _ _ (omega arith) (came resOfError (c .before .before .before .read-error .ensures) (c .before .r .given .1))
+    let at-loop = c .before .before .before .before .before in
+    let l = at-loop .loop in
+    l .inv
+    ∙ others-end errorAt (l .left) (now (at-loop .before .before .args .s)) (l .d .at) _ _ (omega arith)
+    (came resOfError (c .before .before .before .read-error .ensures) (c .before .r .given .1))
 
 returns-2 : tie.Need-returns-2 Inv-loop μ-loop
 returns-2 c =

@@ -1,4 +1,4 @@
--- `report::head::head_of` meets its contract.
+-- `report::head::head_of` meets its contract: each field as it is, and the stateid from its callee.
 use borrow.Author.Needs.{needs}
 use Rattle.report.proofs.head.head_of.Statement.{statement}
 use Rattle.report.proofs.head.head_of.Tie as tie

@@ -39,7 +39,13 @@ why-u64-requires-2 c κs = search needs
 
 returns-2 : tie.Need-returns-2
 unfolding headAt then
-returns-2 c = rw (came resOfU64 (c .before .before .before .before .before .before .before .read-u64 .ensures) (c .before .before .before .before .before .ro .given .1), handed resOfU64 (c .before .before .before .read-u642 .ensures) (c .before .enum-told2 .given .1) (c .why-u642 .ensures) refl)
+returns-2 c =
+    let after-ro = c .before .before .before .before .before in
+    rw (
+      came resOfU64 (after-ro .before .before .read-u64 .ensures) (after-ro .ro .given .1),
+      handed resOfU64 (c .before .before .before .read-u642 .ensures) (c .before .enum-told2 .given .1)
+          (c .why-u642 .ensures) refl,
+    )
 
 range-last-requires : tie.Need-range-last-requires
 range-last-requires c κs = search needs
@@ -55,7 +61,15 @@ why-last-requires c κs = search needs
 
 returns-3 : tie.Need-returns-3
 unfolding headAt then asItem
-returns-3 c = rw (came resOfU64 (c .before .before .before .before .before .before .before .before .before .before .before .read-u64 .ensures) (c .before .before .before .before .before .before .before .before .before .ro .given .1), came resOfU64 (c .before .before .before .before .before .before .before .read-u642 .ensures) (c .before .before .before .before .before .rl .given .1), handed-answer answerOfLast (c .before .before .before .range-last .ensures) (c .before .enum-told4 .given .1) (c .why-last .ensures) refl)
+returns-3 c =
+    let after-rl = c .before .before .before .before .before in
+    let after-ro = after-rl .before .before .before .before in
+    rw (
+      came resOfU64 (after-ro .before .before .read-u64 .ensures) (after-ro .ro .given .1),
+      came resOfU64 (after-rl .before .before .read-u642 .ensures) (after-rl .rl .given .1),
+      handed-answer answerOfLast (c .before .before .before .range-last .ensures) (c .before .enum-told4 .given .1)
+          (c .why-last .ensures) refl,
+    )
 
 read-bytes-requires : tie.Need-read-bytes-requires
 read-bytes-requires c κs = search needs
@@ -71,7 +85,18 @@ why-part-requires c κs = search needs
 
 returns-4 : tie.Need-returns-4
 unfolding headAt then asItem
-returns-4 c = rw (came resOfU64 (c .before .before .before .before .before .before .before .before .before .before .before .before .before .before .read-u64 .ensures) (c .before .before .before .before .before .before .before .before .before .before .before .before .ro .given .1), came resOfU64 (c .before .before .before .before .before .before .before .before .before .before .read-u642 .ensures) (c .before .before .before .before .before .before .before .before .rl .given .1), came answerOfLast (c .before .before .before .before .before .before .range-last .ensures) (c .before .before .before .before .enum-told3 .given .1), handed resOfPart (c .before .before .before .read-bytes .ensures) (c .before .enum-told5 .given .1) (c .why-part .ensures) refl)
+returns-4 c =
+    let after-enum-told3 = c .before .before .before .before in
+    let after-rl = after-enum-told3 .before .before .before .before in
+    let after-ro = after-rl .before .before .before .before in
+    rw (
+      came resOfU64 (after-ro .before .before .read-u64 .ensures) (after-ro .ro .given .1),
+      came resOfU64 (after-rl .before .before .read-u642 .ensures) (after-rl .rl .given .1),
+      came answerOfLast (after-enum-told3 .before .before .range-last .ensures)
+          (after-enum-told3 .enum-told3 .given .1),
+      handed resOfPart (c .before .before .before .read-bytes .ensures) (c .before .enum-told5 .given .1)
+          (c .why-part .ensures) refl,
+    )
 
 read-count-requires : tie.Need-read-count-requires
 read-count-requires c κs = search needs
@@ -87,11 +112,34 @@ why-u32-requires c κs = search needs
 
 returns-5 : tie.Need-returns-5
 unfolding headAt then asItem
-returns-5 c = rw (came resOfU64 (c .before .before .before .before .before .before .before .before .before .before .before .before .before .before .before .before .before .before .read-u64 .ensures) (c .before .before .before .before .before .before .before .before .before .before .before .before .before .before .before .before .ro .given .1), came resOfU64 (c .before .before .before .before .before .before .before .before .before .before .before .before .before .before .read-u642 .ensures) (c .before .before .before .before .before .before .before .before .before .before .before .before .rl .given .1), came answerOfLast (c .before .before .before .before .before .before .before .before .before .before .range-last .ensures) (c .before .before .before .before .before .before .before .before .enum-told3 .given .1), came resOfPart (c .before .before .before .before .before .before .before .read-bytes .ensures) (c .before .before .before .before .before .rs .given .1), handed resOfU32 (c .before .before .before .read-count .ensures) (c .before .enum-told6 .given .1) (c .why-u32 .ensures) refl)
+returns-5 c =
+    let after-rs = c .before .before .before .before .before in
+    let after-rl = after-rs .before .before .before .before .before .before .before in
+    let after-ro = after-rl .before .before .before .before in
+    rw (
+      came resOfU64 (after-ro .before .before .read-u64 .ensures) (after-ro .ro .given .1),
+      came resOfU64 (after-rl .before .before .read-u642 .ensures) (after-rl .rl .given .1),
+      came answerOfLast (after-rs .before .before .before .before .before .range-last .ensures)
+          (after-rs .before .before .before .enum-told3 .given .1),
+      came resOfPart (after-rs .before .before .read-bytes .ensures) (after-rs .rs .given .1),
+      handed resOfU32 (c .before .before .before .read-count .ensures) (c .before .enum-told6 .given .1)
+          (c .why-u32 .ensures) refl,
+    )
 
 returns-6 : tie.Need-returns-6
 unfolding headAt then asItem
-returns-6 c = rw (came resOfU64 (c .before .before .before .before .before .before .before .before .before .before .before .before .before .before .before .before .before .before .read-u64 .ensures) (c .before .before .before .before .before .before .before .before .before .before .before .before .before .before .before .before .ro .given .1), came resOfU64 (c .before .before .before .before .before .before .before .before .before .before .before .before .before .before .read-u642 .ensures) (c .before .before .before .before .before .before .before .before .before .before .before .before .rl .given .1), came answerOfLast (c .before .before .before .before .before .before .before .before .before .before .range-last .ensures) (c .before .before .before .before .before .before .before .before .enum-told3 .given .1), came resOfPart (c .before .before .before .before .before .before .before .read-bytes .ensures) (c .before .before .before .before .before .rs .given .1), came resOfU32 (c .before .before .before .read-count .ensures) (c .before .rn .given .1))
+returns-6 c =
+    let after-rs = c .before .before .before .before .before in
+    let after-rl = after-rs .before .before .before .before .before .before .before in
+    let after-ro = after-rl .before .before .before .before in
+    rw (
+      came resOfU64 (after-ro .before .before .read-u64 .ensures) (after-ro .ro .given .1),
+      came resOfU64 (after-rl .before .before .read-u642 .ensures) (after-rl .rl .given .1),
+      came answerOfLast (after-rs .before .before .before .before .before .range-last .ensures)
+          (after-rs .before .before .before .enum-told3 .given .1),
+      came resOfPart (after-rs .before .before .read-bytes .ensures) (after-rs .rs .given .1),
+      came resOfU32 (c .before .before .before .read-count .ensures) (c .before .rn .given .1),
+    )
 
 pub read-head-spec : {M : Type 1} → statement M
 read-head-spec =

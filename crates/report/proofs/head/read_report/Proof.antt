@@ -26,8 +26,13 @@ why-head-requires c κs = search needs
 returns : tie.Need-returns
 unfolding then
 returns c =
-    let s = now (c .before .before .before .before .before .args .s) in
-    rw (report-ends s (c .before .before .before .before .before .args .c .at), handed-from (resOfHead []) (resOfHead s) (c .before .before .before .read-head .ensures) (c .before .enum-told .given .1) (c .why-head .ensures) refl refl)
+    let start = c .before .before .before .before .before in
+    let s = now (start .args .s) in
+    rw (
+      report-ends s (start .args .c .at),
+      handed-from (resOfHead []) (resOfHead s) (c .before .before .before .read-head .ensures)
+          (c .before .enum-told .given .1) (c .why-head .ensures) refl refl,
+    )
 
 read-errors-requires : tie.Need-read-errors-requires
 read-errors-requires c κs = search needs
@@ -44,14 +49,27 @@ why-end-requires c κs = search needs
 returns-2 : tie.Need-returns-2
 unfolding then
 returns-2 c =
-    let s = now (c .before .before .before .before .before .before .before .before .before .args .s) in
-    rw (report-ends s (c .before .before .before .before .before .before .before .before .before .args .c .at), came (resOfHead s) (c .before .before .before .before .before .before .before .read-head .ensures) (c .before .before .before .before .before .rh .given .1), handed resOfEnd (c .before .before .before .read-errors .ensures) (c .before .enum-told2 .given .1) (c .why-end .ensures) refl)
+    let after-rh = c .before .before .before .before .before in
+    let start = after-rh .before .before .before .before in
+    let s = now (start .args .s) in
+    rw (
+      report-ends s (start .args .c .at),
+      came (resOfHead s) (after-rh .before .before .read-head .ensures) (after-rh .rh .given .1),
+      handed resOfEnd (c .before .before .before .read-errors .ensures) (c .before .enum-told2 .given .1)
+          (c .why-end .ensures) refl,
+    )
 
 returns-3 : tie.Need-returns-3
 unfolding then
 returns-3 c =
-    let s = now (c .before .before .before .before .before .before .before .before .before .args .s) in
-    rw (report-ends s (c .before .before .before .before .before .before .before .before .before .args .c .at), came (resOfHead s) (c .before .before .before .before .before .before .before .read-head .ensures) (c .before .before .before .before .before .rh .given .1), came resOfEnd (c .before .before .before .read-errors .ensures) (c .before .re .given .1))
+    let after-rh = c .before .before .before .before .before in
+    let start = after-rh .before .before .before .before in
+    let s = now (start .args .s) in
+    rw (
+      report-ends s (start .args .c .at),
+      came (resOfHead s) (after-rh .before .before .read-head .ensures) (after-rh .rh .given .1),
+      came resOfEnd (c .before .before .before .read-errors .ensures) (c .before .re .given .1),
+    )
 
 pub read-report-spec : {M : Type 1} → statement M
 read-report-spec =

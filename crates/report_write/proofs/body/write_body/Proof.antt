@@ -41,11 +41,14 @@ why-judged-requires c κs = search needs
 
 returns-3 : tie.Need-returns-3
 returns-3 c =
-    let a = c .before .before .before .before .before .before .before .before .before .before .args in
-    let q = sym (sym (c .before .before .before .before .before .total .ensures .0) ∙ c .before .before .before .before .if2 .left) in
-    let j = handed-answer answerOfJudged (c .before .before .before .judge .ensures) (c .before .enum-told2 .given .1) (c .why-judged .ensures) refl in
+    let after-if2 = c .before .before .before .before in
+    let a = after-if2 .before .before .before .before .before .before .args in
+    let q = sym (sym (after-if2 .before .total .ensures .0) ∙ after-if2 .if2 .left) in
+    let j = handed-answer answerOfJudged (c .before .before .before .judge .ensures) (c .before .enum-told2 .given .1)
+    (c .why-judged .ensures) refl in
     written-refused (now (a .out)) _ (faultNumber (c .why-judged .result))
-    (reports-refused (a .count) (a .heads) (a .list-length) (now (a .errors)) (now (a .tail)) (length (now (a .out))) _ (c .before .before .before .before .before .before .if1 .left) q j)
+    (reports-refused (a .count) (a .heads) (a .list-length) (now (a .errors)) (now (a .tail)) (length (now (a .out))) _
+    (after-if2 .before .before .if1 .left) q j)
 
 mul-before : tie.Need-mul-before
 mul-before c = search needs
@@ -55,51 +58,73 @@ add-before c = search needs
 
 mul-before-2 : tie.Need-mul-before-2
 mul-before-2 c =
-    let a = c .before .before .before .before .before .before .before .before .before .args in
-    let q = sym (sym (c .before .before .before .before .total .ensures .0) ∙ c .before .before .before .if2 .left) in
+    let after-if2 = c .before .before .before in
+    let start = after-if2 .before .before .before .before .before .before in
+    let a = start .args in
+    let q = sym (sym (after-if2 .before .total .ensures .0) ∙ after-if2 .if2 .left) in
     let j = came answerOfJudged (c .before .before .judge .ensures) (c .enum-told .given .1) in
-    let z = sizes (a .count) (a .heads) (a .list-length) (now (a .errors)) (now (a .tail)) (c .before .before .before .before .before .if1 .left) (c .before .before .before .before .before .before .before .before .before .good .1 .0 .1 .0 .1) q (c .before .before .before .before .total .ensures .1) j in
+    let z = sizes (a .count) (a .heads) (a .list-length) (now (a .errors)) (now (a .tail))
+    (after-if2 .before .before .if1 .left) (start .good .1 .0 .1 .0 .1) q (after-if2 .before .total .ensures .1) j in
     omega (arith, z .few)
 
 add-before-2 : tie.Need-add-before-2
 add-before-2 c =
-    let a = c .before .before .before .before .before .before .before .before .before .args in
-    let q = sym (sym (c .before .before .before .before .total .ensures .0) ∙ c .before .before .before .if2 .left) in
+    let after-total = c .before .before .before .before in
+    let start = after-total .before .before .before .before .before in
+    let a = start .args in
+    let q = sym (sym (after-total .total .ensures .0) ∙ c .before .before .before .if2 .left) in
     let j = came answerOfJudged (c .before .before .judge .ensures) (c .enum-told .given .1) in
-    let z = sizes (a .count) (a .heads) (a .list-length) (now (a .errors)) (now (a .tail)) (c .before .before .before .before .before .if1 .left) (c .before .before .before .before .before .before .before .before .before .good .1 .0 .1 .0 .1) q (c .before .before .before .before .total .ensures .1) j in
-    omega (arith, z .few, c .before .before .before .before .before .if1 .left)
+    let z = sizes (a .count) (a .heads) (a .list-length) (now (a .errors)) (now (a .tail))
+    (after-total .before .if1 .left) (start .good .1 .0 .1 .0 .1) q (after-total .total .ensures .1) j in
+    omega (arith, z .few, after-total .before .if1 .left)
 
 add-size : tie.Need-add-size
 add-size c =
-    let a = c .before .before .before .before .before .before .before .before .before .args in
-    let q = sym (sym (c .before .before .before .before .total .ensures .0) ∙ c .before .before .before .if2 .left) in
+    let after-total = c .before .before .before .before in
+    let start = after-total .before .before .before .before .before in
+    let a = start .args in
+    let q = sym (sym (after-total .total .ensures .0) ∙ c .before .before .before .if2 .left) in
     let j = came answerOfJudged (c .before .before .judge .ensures) (c .enum-told .given .1) in
-    let z = sizes (a .count) (a .heads) (a .list-length) (now (a .errors)) (now (a .tail)) (c .before .before .before .before .before .if1 .left) (c .before .before .before .before .before .before .before .before .before .good .1 .0 .1 .0 .1) q (c .before .before .before .before .total .ensures .1) j in
-    omega (arith, z .few, c .before .before .before .before .before .if1 .left, c .before .before .before .before .before .before .before .before .before .good .1 .1 .1 .1 .0 .1)
+    let z = sizes (a .count) (a .heads) (a .list-length) (now (a .errors)) (now (a .tail))
+    (after-total .before .if1 .left) (start .good .1 .0 .1 .0 .1) q (after-total .total .ensures .1) j in
+    omega (arith, z .few, after-total .before .if1 .left, start .good .1 .1 .1 .1 .0 .1)
 
 returns-4 : tie.Need-returns-4
 returns-4 c =
-    let a = c .before .before .before .before .before .before .before .before .before .before .args in
-    let q = sym (sym (c .before .before .before .before .before .total .ensures .0) ∙ c .before .before .before .before .if2 .left) in
+    let after-if2 = c .before .before .before .before in
+    let start = after-if2 .before .before .before .before .before .before in
+    let a = start .args in
+    let q = sym (sym (after-if2 .before .total .ensures .0) ∙ after-if2 .if2 .left) in
     let j = came answerOfJudged (c .before .before .before .judge .ensures) (c .before .enum-told .given .1) in
-    let z = sizes (a .count) (a .heads) (a .list-length) (now (a .errors)) (now (a .tail)) (c .before .before .before .before .before .before .if1 .left) (c .before .before .before .before .before .before .before .before .before .before .good .1 .0 .1 .0 .1) q (c .before .before .before .before .before .total .ensures .1) j in
+    let z = sizes (a .count) (a .heads) (a .list-length) (now (a .errors)) (now (a .tail))
+    (after-if2 .before .before .if1 .left) (start .good .1 .0 .1 .0 .1) q (after-if2 .before .total .ensures .1) j in
     let l = now (a .out) in
     let hs = take (a .count) (a .heads) in
     let es = recordsAt (counts hs) (now (a .errors)) 0 in
     let bs = bodyBytes hs es (now (a .tail)) in
     let n : length l < length bs = omega (arith, z .body, c .if3 .taken) in
-    written-refused l _ 26 (reports-allowed (a .count) (a .heads) (a .list-length) (now (a .errors)) (now (a .tail)) (length l) (c .before .before .before .before .before .before .if1 .left) q j ∙ too-short bs _ n)
+    written-refused l _ 26
+    (reports-allowed (a .count) (a .heads) (a .list-length) (now (a .errors)) (now (a .tail)) (length l)
+    (after-if2 .before .before .if1 .left) q j ∙ too-short bs _ n)
 
 put-be4-requires : tie.Need-put-be4-requires
 put-be4-requires c κs = search needs
 
 put-reports-requires : tie.Need-put-reports-requires
 put-reports-requires c κs =
-    let a = c .before .before .before .before .before .before .before .before .before .before .before .before .before .before .before .args in
-    let q = sym (sym (c .before .before .before .before .before .before .before .before .before .before .total .ensures .0) ∙ c .before .before .before .before .before .before .before .before .before .if2 .left) in
-    let j = came answerOfJudged (c .before .before .before .before .before .before .before .before .judge .ensures) (c .before .before .before .before .before .before .enum-told .given .1) in
-    let z = sizes (a .count) (a .heads) (a .list-length) (now (a .errors)) (now (a .tail)) (c .before .before .before .before .before .before .before .before .before .before .before .if1 .left) (c .before .before .before .before .before .before .before .before .before .before .before .before .before .before .before .good .1 .0 .1 .0 .1) q (c .before .before .before .before .before .before .before .before .before .before .total .ensures .1) j in
-    (c .before .before .before .before .before .before .before .before .before .before .before .if1 .left, omega (arith, c .before .before .before .put-be4 .kept .0, z .few, z .body, q, c .before .before .before .before .before .if3 .left), z .inside)
+    let after-if3 = c .before .before .before .before .before in
+    let after-if2 = after-if3 .before .before .before .before in
+    let start = after-if2 .before .before .before .before .before .before in
+    let a = start .args in
+    let q = sym (sym (after-if2 .before .total .ensures .0) ∙ after-if2 .if2 .left) in
+    let j =
+    came answerOfJudged (after-if3 .before .before .before .judge .ensures) (after-if3 .before .enum-told .given .1) in
+    let z = sizes (a .count) (a .heads) (a .list-length) (now (a .errors)) (now (a .tail))
+    (after-if2 .before .before .if1 .left) (start .good .1 .0 .1 .0 .1) q (after-if2 .before .total .ensures .1) j in (
+      after-if2 .before .before .if1 .left,
+      omega (arith, c .before .before .before .put-be4 .kept .0, z .few, z .body, q, after-if3 .if3 .left),
+      z .inside,
+    )
 
 put-bytes-requires : tie.Need-put-bytes-requires
 put-bytes-requires c κs = search needs
@@ -109,17 +134,29 @@ same-length c = search needs
 
 returns-5 : tie.Need-returns-5
 returns-5 c =
-    let a = c .before .before .before .before .before .before .before .before .before .before .before .before .before .before .before .before .before .before .before .before .before .before .args in
-    let q = sym (sym (c .before .before .before .before .before .before .before .before .before .before .before .before .before .before .before .before .before .total .ensures .0) ∙ c .before .before .before .before .before .before .before .before .before .before .before .before .before .before .before .before .if2 .left) in
-    let j = came answerOfJudged (c .before .before .before .before .before .before .before .before .before .before .before .before .before .before .before .judge .ensures) (c .before .before .before .before .before .before .before .before .before .before .before .before .before .enum-told .given .1) in
-    let z = sizes (a .count) (a .heads) (a .list-length) (now (a .errors)) (now (a .tail)) (c .before .before .before .before .before .before .before .before .before .before .before .before .before .before .before .before .before .before .if1 .left) (c .before .before .before .before .before .before .before .before .before .before .before .before .before .before .before .before .before .before .before .before .before .before .good .1 .0 .1 .0 .1) q (c .before .before .before .before .before .before .before .before .before .before .before .before .before .before .before .before .before .total .ensures .1) j in
+    let after-put-reports = c .before .before .before .before .before .before in
+    let after-if3 = after-put-reports .before .before .before .before .before .before in
+    let after-if2 = after-if3 .before .before .before .before in
+    let start = after-if2 .before .before .before .before .before .before in
+    let a = start .args in
+    let q = sym (sym (after-if2 .before .total .ensures .0) ∙ after-if2 .if2 .left) in
+    let j =
+    came answerOfJudged (after-if3 .before .before .before .judge .ensures) (after-if3 .before .enum-told .given .1) in
+    let z = sizes (a .count) (a .heads) (a .list-length) (now (a .errors)) (now (a .tail))
+    (after-if2 .before .before .if1 .left) (start .good .1 .0 .1 .0 .1) q (after-if2 .before .total .ensures .1) j in
     let l = now (a .out) in
     let hs = take (a .count) (a .heads) in
     let es = recordsAt (counts hs) (now (a .errors)) 0 in
     let bs = bodyBytes hs es (now (a .tail)) in
-    let n : length bs ≤ length l = omega (arith, z .body, c .before .before .before .before .before .before .before .before .before .before .before .before .if3 .left) in
-    written-accepted l _ _ bs _ (reports-allowed (a .count) (a .heads) (a .list-length) (now (a .errors)) (now (a .tail)) (length l) (c .before .before .before .before .before .before .before .before .before .before .before .before .before .before .before .before .before .before .if1 .left) q j ∙ fits bs (length l) n) (sym (z .body))
-    (rw (c .before .before .put-bytes .ensures, c .before .before .before .before .before .before .put-reports .ensures, c .before .before .before .before .before .before .before .before .before .before .put-be4 .ensures) (body-stored l hs es (now (a .tail)) (a .count) _ (z .reports) (z .before) (c .before .before .before .before .before .before .before .before .before .before .before .before .if3 .left)))
+    let n : length bs ≤ length l = omega (arith, z .body, after-if3 .if3 .left) in
+    written-accepted l _ _ bs _
+    (reports-allowed (a .count) (a .heads) (a .list-length) (now (a .errors)) (now (a .tail)) (length l)
+    (after-if2 .before .before .if1 .left) q j ∙ fits bs (length l) n) (sym (z .body))
+    (rw (
+      c .before .before .put-bytes .ensures,
+      after-put-reports .put-reports .ensures,
+      after-put-reports .before .before .before .before .put-be4 .ensures,
+    ) (body-stored l hs es (now (a .tail)) (a .count) _ (z .reports) (z .before) (after-if3 .if3 .left)))
 
 pub write-body-spec : {M : Type 1} → statement M
 write-body-spec =

@@ -37,8 +37,14 @@ error-fits-requires c κs = search needs
 
 returns : tie.Need-returns Inv-loop μ-loop
 returns c =
-    let l = c .before .before .before .before .before .loop in
-    rw (l .inv .1, fits-next (l .left) (now (c .before .before .before .before .before .before .before .args .errors)) (l .at) _ _ _ (omega arith) (c .before .before .before .be4 .ensures) (c .before .before .be42 .ensures) (c .before .error-fits .ensures), not-true (c .before .error-fits .result) (c .if1 .taken))
+    let after-be4 = c .before .before .before in
+    let l = after-be4 .before .before .loop in
+    rw (
+      l .inv .1,
+      fits-next (l .left) (now (after-be4 .before .before .before .before .args .errors)) (l .at) _ _ _ (omega arith)
+          (after-be4 .be4 .ensures) (c .before .before .be42 .ensures) (c .before .error-fits .ensures),
+      not-true (c .before .error-fits .result) (c .if1 .taken),
+    )
 
 add-at : tie.Need-add-at Inv-loop μ-loop
 add-at c = search needs
@@ -51,8 +57,17 @@ loop-less c = search needs
 
 loop-again : tie.Need-loop-again Inv-loop μ-loop
 loop-again c =
-    let l = c .before .before .before .before .before .loop in
-    (omega arith, rw (l .inv .1, fits-next (l .left) (now (c .before .before .before .before .before .before .before .args .errors)) (l .at) _ _ _ (omega arith) (c .before .before .before .be4 .ensures) (c .before .before .be42 .ensures) (c .before .error-fits .ensures), not-false (c .before .error-fits .result) (c .if1 .left)))
+    let at-loop = c .before .before .before .before .before in
+    let l = at-loop .loop in (
+      omega arith,
+      rw (
+        l .inv .1,
+        fits-next (l .left) (now (at-loop .before .before .args .errors)) (l .at) _ _ _ (omega arith)
+            (c .before .before .before .be4 .ensures) (c .before .before .be42 .ensures)
+            (c .before .error-fits .ensures),
+        not-false (c .before .error-fits .result) (c .if1 .left),
+      ),
+    )
 
 returns-2 : tie.Need-returns-2 Inv-loop μ-loop
 returns-2 c =

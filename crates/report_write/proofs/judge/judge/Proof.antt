@@ -48,12 +48,19 @@ enum-told-2 c = search needs
 returns : tie.Need-returns Inv-loop μ-loop
 unfolding given
 returns c =
-    let l = c .before .before .before .before .before .before .loop in
-    let n = c .before .before .before .before .before .before .before .before .args .count in
-    let hs = c .before .before .before .before .before .before .before .before .args .t1 in
+    let at-loop = c .before .before .before .before .before .before in
+    let start = at-loop .before .before in
+    let l = at-loop .loop in
+    let n = start .args .count in
+    let hs = start .args .t1 in
     let h : l .i < length hs = omega arith in
     let m : 0 < n - l .i = omega arith in
-    rw (l .inv .4, judged-next hs (l .i) (n - l .i) (now (c .before .before .before .before .before .before .before .before .args .errors)) (l .from) h m, came answerOfJudged (c .before .before .judge-one .ensures) (c .enum-told2 .given .1), c .enum-told2 .given .1)
+    rw (
+      l .inv .4,
+      judged-next hs (l .i) (n - l .i) (now (start .args .errors)) (l .from) h m,
+      came answerOfJudged (c .before .before .judge-one .ensures) (c .enum-told2 .given .1),
+      c .enum-told2 .given .1,
+    )
 
 mul-from : tie.Need-mul-from Inv-loop μ-loop
 mul-from c = search needs
@@ -70,9 +77,11 @@ loop-less c = search needs
 loop-again : tie.Need-loop-again Inv-loop μ-loop
 unfolding given
 loop-again c =
-    let l = c .before .before .before .before .before .before .loop in
-    let n = c .before .before .before .before .before .before .before .before .args .count in
-    let hs = c .before .before .before .before .before .before .before .before .args .t1 in
+    let at-loop = c .before .before .before .before .before .before in
+    let start = at-loop .before .before in
+    let l = at-loop .loop in
+    let n = start .args .count in
+    let hs = start .args .t1 in
     let e : n - (l .i + 1) ≡ n - l .i - 1 = omega arith in
     let h : l .i < length hs = omega arith in
     let m : 0 < n - l .i = omega arith in
@@ -81,7 +90,7 @@ loop-again c =
       l .inv .1,
       omega (arith, l .inv .2, allowed _ _ k .few),
       l .inv .3,
-      rw (e, l .inv .4, judged-next hs (l .i) (n - l .i) (now (c .before .before .before .before .before .before .before .before .args .errors)) (l .from) h m, k),
+      rw (e, l .inv .4, judged-next hs (l .i) (n - l .i) (now (start .args .errors)) (l .from) h m, k),
     )
 
 returns-2 : tie.Need-returns-2 Inv-loop μ-loop

@@ -31,7 +31,13 @@ returns-2 c = rw (came answerOfLast (c .before .before .before .before .range-la
 
 returns-3 : tie.Need-returns-3
 unfolding judgedOne given pick
-returns-3 c = rw (came answerOfLast (c .before .before .before .before .before .before .range-last .ensures) (c .before .before .before .before .enum-told .given .1), le-leb _ _ (c .before .before .if1 .left), lt-leb _ _ (c .if2 .taken))
+returns-3 c =
+    let after-enum-told = c .before .before .before .before in
+    rw (
+      came answerOfLast (after-enum-told .before .before .range-last .ensures) (after-enum-told .enum-told .given .1),
+      le-leb _ _ (c .before .before .if1 .left),
+      lt-leb _ _ (c .if2 .taken),
+    )
 
 cast-n : tie.Need-cast-n
 cast-n c = search needs
@@ -41,11 +47,27 @@ errors-fit-requires c κs = search needs
 
 returns-4 : tie.Need-returns-4
 unfolding judgedOne given pick
-returns-4 c = rw (came answerOfLast (c .before .before .before .before .before .before .before .before .before .range-last .ensures) (c .before .before .before .before .before .before .before .enum-told .given .1), le-leb _ _ (c .before .before .before .before .before .if1 .left), le-leb _ _ (c .before .before .before .if2 .left), sym (c .before .errors-fit .ensures) ∙ not-true _ (c .if3 .taken))
+returns-4 c =
+    let after-if1 = c .before .before .before .before .before in
+    rw (
+      came answerOfLast (after-if1 .before .before .before .before .range-last .ensures)
+          (after-if1 .before .before .enum-told .given .1),
+      le-leb _ _ (after-if1 .if1 .left),
+      le-leb _ _ (c .before .before .before .if2 .left),
+      sym (c .before .errors-fit .ensures) ∙ not-true _ (c .if3 .taken),
+    )
 
 returns-5 : tie.Need-returns-5
 unfolding judgedOne given pick
-returns-5 c = rw (came answerOfLast (c .before .before .before .before .before .before .before .before .before .range-last .ensures) (c .before .before .before .before .before .before .before .enum-told .given .1), le-leb _ _ (c .before .before .before .before .before .if1 .left), le-leb _ _ (c .before .before .before .if2 .left), sym (c .before .errors-fit .ensures) ∙ not-false _ (c .if3 .left))
+returns-5 c =
+    let after-if1 = c .before .before .before .before .before in
+    rw (
+      came answerOfLast (after-if1 .before .before .before .before .range-last .ensures)
+          (after-if1 .before .before .enum-told .given .1),
+      le-leb _ _ (after-if1 .if1 .left),
+      le-leb _ _ (c .before .before .before .if2 .left),
+      sym (c .before .errors-fit .ensures) ∙ not-false _ (c .if3 .left),
+    )
 
 pub judge-one-spec : {M : Type 1} → statement M
 judge-one-spec =

@@ -57,18 +57,22 @@ same-length c = search needs
 returns-4 : tie.Need-returns-4
 unfolding errorBytes
 returns-4 c =
-    let l = now (c .before .before .before .before .before .before .before .before .before .before .before .before .before .before .before .before .before .args .buf) in
-    let at = c .before .before .before .before .before .before .before .before .before .before .before .before .before .before .before .before .before .args .at in
-    let d = now (c .before .before .before .before .before .before .before .before .before .before .before .before .before .before .before .before .before .args .device) in
-    let st = beBytes 4 (c .before .before .before .before .before .before .before .before .before .before .before .before .before .before .before .before .before .args .status) in
-    let op = beBytes 4 (c .before .before .before .before .before .before .before .before .before .before .before .before .before .before .before .before .before .args .operation) in
-    let a = length-be 4 (c .before .before .before .before .before .before .before .before .before .before .before .before .before .before .before .before .before .args .status) in
-    let b = length-be 4 (c .before .before .before .before .before .before .before .before .before .before .before .before .before .before .before .before .before .args .operation) in
+    let after-put-be4 = c .before .before .before .before .before .before in
+    let after-put-bytes = after-put-be4 .before .before .before .before in
+    let start = after-put-bytes .before .before .before .before .before .before .before in
+    let l = now (start .args .buf) in
+    let at = start .args .at in
+    let d = now (start .args .device) in
+    let st = beBytes 4 (start .args .status) in
+    let op = beBytes 4 (start .args .operation) in
+    let a = length-be 4 (start .args .status) in
+    let b = length-be 4 (start .args .operation) in
     let e : at + length d + 4 ≡ at + length d + length st = omega (arith, a) in
     let f : at + length d + 4 + length op ≤ length (stored l at d) = rw (length-stored l at d) (omega (arith, b)) in
     let g : at + length d + length (st ++ op) ≤ length l = simp (length-append, a, b) (omega arith) in
-    rw (c .before .before .put-be42 .ensures, c .before .before .before .before .before .before .put-be4 .ensures, c .before .before .before .before .before .before .before .before .before .before .put-bytes .ensures)
-    (stored-then (stored l at d) (at + length d) (at + length d + 4) st op e f ∙ stored-then l at (at + length d) d (st ++ op) refl g)
+    rw (c .before .before .put-be42 .ensures, after-put-be4 .put-be4 .ensures, after-put-bytes .put-bytes .ensures)
+    (stored-then (stored l at d) (at + length d) (at + length d + 4) st op e f
+    ∙ stored-then l at (at + length d) d (st ++ op) refl g)
 
 pub put-error-spec : {M : Type 1} → statement M
 put-error-spec =

@@ -32,12 +32,14 @@ same-length c = search needs
 
 returns : tie.Need-returns
 returns c =
-    let a = c .before .before .before .before .before .before .before .args in
+    let start = c .before .before .before .before .before .before .before in
+    let a = start .args in
     let errors = now (a .errors) in
     let e : a .from + 24 * a .n - a .from ≡ 24 * a .n = omega arith in
     c .before .before .put-bytes .ensures
-    ∙ errors-stored (now (a .out)) (a .at) (a .n) errors (a .from) _ (λ i. omega (arith, c .before .before .before .before .before .shared-slice-known .given i)) (c .before .before .before .before .before .before .before .pre .0) (c .before .before .before .before .before .before .before .pre .1)
-    (ap (λ (m : ℕ). take m (drop (a .from) errors)) e)
+    ∙ errors-stored (now (a .out)) (a .at) (a .n) errors (a .from) _
+    (λ i. omega (arith, c .before .before .before .before .before .shared-slice-known .given i)) (start .pre .0)
+    (start .pre .1) (ap (λ (m : ℕ). take m (drop (a .from) errors)) e)
 
 pub put-errors-spec : {M : Type 1} → statement M
 put-errors-spec =

@@ -37,8 +37,19 @@ same-length c = search needs
 
 returns : tie.Need-returns
 returns c =
-    let e : length (c .before .before .before .before .before .before .before .before .before .before .before .before .before .before .before .before .before .before .before .args .head .stateid) ≡ 16 = search needs in
-    (rw (c .before .before .put-be4 .ensures, c .before .before .before .before .before .before .put-bytes .ensures, c .before .before .before .before .before .before .before .before .before .before .before .put-be82 .ensures, c .before .before .before .before .before .before .before .before .before .before .before .before .before .before .before .put-be8 .ensures) (head-stored (now (c .before .before .before .before .before .before .before .before .before .before .before .before .before .before .before .before .before .before .before .args .out)) (c .before .before .before .before .before .before .before .before .before .before .before .before .before .before .before .before .before .before .before .args .at) (c .before .before .before .before .before .before .before .before .before .before .before .before .before .before .before .before .before .before .before .args .head) e (omega arith)), e)
+    let start = c .before .before .before .before .before .before .before .before .before .before
+    .before .before .before .before .before .before .before .before .before in
+    let e : length (start .args .head .stateid) ≡ 16 = search needs in
+    let after-put-bytes = c .before .before .before .before .before .before in
+    let after-put-be82 = after-put-bytes .before .before .before .before .before in (
+      rw (
+        c .before .before .put-be4 .ensures,
+        after-put-bytes .put-bytes .ensures,
+        after-put-be82 .put-be82 .ensures,
+        after-put-be82 .before .before .before .before .put-be8 .ensures,
+      ) (head-stored (now (start .args .out)) (start .args .at) (start .args .head) e (omega arith)),
+      e,
+    )
 
 pub put-head-spec : {M : Type 1} → statement M
 put-head-spec =

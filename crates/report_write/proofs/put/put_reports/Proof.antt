@@ -26,11 +26,12 @@ abbrev μ-loop : tie.MeasureT-loop
 
 loop-holds : tie.Need-loop-holds Inv-loop μ-loop
 loop-holds c =
-    let n = c .before .before .args .count in (
+    let start = c .before .before in
+    let n = start .args .count in (
       omega arith,
-      omega (arith, c .before .before .pre .0, c .before .before .good .1 .0 .1 .0 .1),
-      rw (sub-zero n) (c .before .before .pre .1),
-      rw (sub-zero n) (omega (arith, c .before .before .pre .2)),
+      omega (arith, start .pre .0, start .good .1 .0 .1 .0 .1),
+      rw (sub-zero n) (start .pre .1),
+      rw (sub-zero n) (omega (arith, start .pre .2)),
       refl,
       rw (sub-zero n),
     )
@@ -52,13 +53,15 @@ add-put-errors c = search needs
 
 put-errors-requires : tie.Need-put-errors-requires Inv-loop μ-loop
 put-errors-requires c κs =
-    let l = c .before .before .before .before .before .before .before .before .loop in
-    let n = c .before .before .before .before .before .before .before .before .before .before .before .args .count in
-    let hs = c .before .before .before .before .before .before .before .before .before .before .before .args .t2 in
+    let after-put-head = c .before .before .before in
+    let at-loop = after-put-head .before .before .before .before .before in
+    let l = at-loop .loop in
+    let n = at-loop .before .before .before .args .count in
+    let hs = at-loop .before .before .before .args .t2 in
     let h : l .i < length hs = omega arith in
     let m : 0 < n - l .i = omega arith in
     let a = counts-next hs (l .i) (n - l .i) h m in
-    (omega (arith, a, c .before .before .before .put-head .kept .0, l .inv .2, l .inv .4), omega (arith, a, l .inv .3))
+    (omega (arith, a, after-put-head .put-head .kept .0, l .inv .2, l .inv .4), omega (arith, a, l .inv .3))
 
 mul-p : tie.Need-mul-p Inv-loop μ-loop
 mul-p c = search needs
@@ -83,10 +86,13 @@ loop-less c = search needs
 
 loop-again : tie.Need-loop-again Inv-loop μ-loop
 loop-again c =
-    let l = c .before .before .before .before .before .before .before .before .before .before .before .loop in
-    let n = c .before .before .before .before .before .before .before .before .before .before .before .before .before .before .args .count in
-    let hs = c .before .before .before .before .before .before .before .before .before .before .before .before .before .before .args .t2 in
-    let errors = now (c .before .before .before .before .before .before .before .before .before .before .before .before .before .before .args .errors) in
+    let after-put-head = c .before .before .before .before .before .before in
+    let at-loop = after-put-head .before .before .before .before .before in
+    let start = at-loop .before .before .before in
+    let l = at-loop .loop in
+    let n = start .args .count in
+    let hs = start .args .t2 in
+    let errors = now (start .args .errors) in
     let e : n - (l .i + 1) ≡ n - l .i - 1 = omega arith in
     let h : l .i < length hs = omega arith in
     let m : 0 < n - l .i = omega arith in
@@ -96,9 +102,18 @@ loop-again c =
       l .inv .1,
       rw e (omega (arith, a, l .inv .2)),
       rw e (omega (arith, a, l .inv .3)),
-      c .before .before .put-errors .kept .0 ∙ c .before .before .before .before .before .before .put-head .kept .0 ∙ l .inv .4,
-      rw (e, l .inv .5, reports-next hs (l .i) (n - l .i) errors (l .from) h m, c .before .before .put-errors .ensures, c .before .before .before .before .before .before .put-head .ensures .0)
-          (report-stored (l .out) (l .p) (24 * head .errors) (headBytes head) (errorsBytes (recordsAt (head .errors) errors (l .from))) _ (length-head head (c .before .before .before .before .before .before .put-head .ensures .1)) (length-errors (head .errors) errors (l .from) (omega (arith, a, l .inv .3)))),
+      c .before .before .put-errors .kept .0 ∙ after-put-head .put-head .kept .0 ∙ l .inv .4,
+      rw (
+        e,
+        l .inv .5,
+        reports-next hs (l .i) (n - l .i) errors (l .from) h m,
+        c .before .before .put-errors .ensures,
+        after-put-head .put-head .ensures .0,
+      )
+          (report-stored (l .out) (l .p) (24 * head .errors) (headBytes head)
+          (errorsBytes (recordsAt (head .errors) errors (l .from))) _
+          (length-head head (after-put-head .put-head .ensures .1))
+          (length-errors (head .errors) errors (l .from) (omega (arith, a, l .inv .3)))),
     )
 
 same-length : tie.Need-same-length Inv-loop μ-loop

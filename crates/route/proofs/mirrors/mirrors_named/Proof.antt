@@ -1,4 +1,4 @@
--- `route::mirrors::mirrors_named` meets its contract.
+-- `route::mirrors::mirrors_named` meets its contract: all mirrors are a power less one, one mirror is a power.
 use Prim.Native.Nat.{ℕ, _-_, _^_}
 use Rattle.route.proofs.MirrorLaws.{all-named, one-named}
 use borrow.Author.Needs.{needs}

@@ -1,4 +1,4 @@
--- `route::mirrors::names_all` meets its contract.
+-- `route::mirrors::names_all` meets its contract: a read, then the flag of a write.
 use borrow.Author.Needs.{needs}
 use borrow.Author.Tests.{not-false, not-true}
 use Rattle.route.proofs.mirrors.names_all.Statement.{statement}

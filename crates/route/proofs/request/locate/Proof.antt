@@ -41,9 +41,12 @@ why-last-requires c κs = search needs
 
 returns-2 : tie.Need-returns-2
 returns-2 c =
-    let a = c .before .before .before .before .before .before .before .before .before .before .args in
-    sym (range-refused (a .write) (a .t) (now (a .store)) (a .offset) (a .len) _ (sym (c .before .before .before .before .before .before .judge-and-read .ensures .0) ∙ not-false _ (c .before .before .before .before .if1 .left))
-    (handed-answer answerOfLast (c .before .before .before .request-last .ensures) (c .before .enum-told2 .given .1) (c .why-last .ensures) refl))
+    let after-if1 = c .before .before .before .before in
+    let a = after-if1 .before .before .before .before .before .before .args in
+    sym (range-refused (a .write) (a .t) (now (a .store)) (a .offset) (a .len) _
+    (sym (after-if1 .before .before .judge-and-read .ensures .0) ∙ not-false _ (after-if1 .if1 .left))
+    (handed-answer answerOfLast (c .before .before .before .request-last .ensures) (c .before .enum-told2 .given .1)
+    (c .why-last .ensures) refl))
 
 enum-known-h : tie.Need-enum-known-h
 enum-known-h c = search needs
@@ -53,11 +56,15 @@ enum-told-3 c = search needs
 
 returns-3 : tie.Need-returns-3
 returns-3 c =
-    let a = c .before .before .before .before .before .before .before .before .before .before .before .args in
-    let s = sym (c .before .before .before .before .before .before .before .judge-and-read .ensures .0) ∙ not-false _ (c .before .before .before .before .before .if1 .left) in
-    let r = came answerOfLast (c .before .before .before .before .request-last .ensures) (c .before .before .enum-told .given .1) in
-    let g = came answerOfGrant (c .before .before .before .before .before .before .before .before .before .serving-grant .ensures) (c .enum-told3 .given .1) in
-    sym (not-served (a .write) (a .t) (now (a .store)) (a .offset) (a .len) _ _ s r (not-granted (a .write) (a .t) (a .offset) (now (a .store)) _ g))
+    let after-if1 = c .before .before .before .before .before in
+    let a = after-if1 .before .before .before .before .before .before .args in
+    let s = sym (after-if1 .before .before .judge-and-read .ensures .0) ∙ not-false _ (after-if1 .if1 .left) in
+    let r = came answerOfLast (c .before .before .before .before .request-last .ensures)
+    (c .before .before .enum-told .given .1) in
+    let g =
+    came answerOfGrant (after-if1 .before .before .before .before .serving-grant .ensures) (c .enum-told3 .given .1) in
+    sym (not-served (a .write) (a .t) (now (a .store)) (a .offset) (a .len) _ _ s r
+    (not-granted (a .write) (a .t) (a .offset) (now (a .store)) _ g))
 
 enum-known-a : tie.Need-enum-known-a
 enum-known-a c = search needs
@@ -67,13 +74,17 @@ enum-told-4 c = search needs
 
 returns-4 : tie.Need-returns-4
 returns-4 c =
-    let a = c .before .before .before .before .before .before .before .before .before .before .before .before .before .before .before .args in
-    let s = sym (c .before .before .before .before .before .before .before .before .before .before .before .judge-and-read .ensures .0) ∙ not-false _ (c .before .before .before .before .before .before .before .before .before .if1 .left) in
-    let g = came answerOfGrant (c .before .before .before .before .before .before .before .before .before .before .before .before .before .serving-grant .ensures) (c .before .before .before .before .h .given .1) in
-    let i = c .before .before .before .before .before .before .before .before .before .before .before .before .slot-asked .ensures ∙ ap slotAsked (c .before .before .before .before .before .before .before .before .before .before .before .before .before .serving-grant .ensures) in
-    let starts = c .before .before .before .before .before .before .before .before .before .before .before .judge-and-read .result .read .starts in
+    let after-h = c .before .before .before .before in
+    let after-if1 = after-h .before .before .before .before .before in
+    let after-slot-asked = after-if1 .before .before .before in
+    let a = after-slot-asked .before .before .before .args in
+    let s = sym (after-if1 .before .before .judge-and-read .ensures .0) ∙ not-false _ (after-if1 .if1 .left) in
+    let g = came answerOfGrant (after-slot-asked .before .serving-grant .ensures) (after-h .h .given .1) in
+    let i = after-slot-asked .slot-asked .ensures ∙ ap slotAsked (after-slot-asked .before .serving-grant .ensures) in
+    let starts = after-if1 .before .before .judge-and-read .result .read .starts in
     let l = sym (body-asked (a .t) (now (a .store)) s (a .write) (a .offset) _ _ g i)
-    ∙ came (λ (x : LayoutAnswer). answerOfLayout x starts) (c .before .before .before .before .before .before .before .before .before .before .before .judge-and-read .ensures .1) (c .enum-told4 .given .1) in
+    ∙ came (λ (x : LayoutAnswer). answerOfLayout x starts) (after-if1 .before .before .judge-and-read .ensures .1)
+    (c .enum-told4 .given .1) in
     absurd (body-not-refused (a .t) (now (a .store)) s (a .write) (a .offset) _ _ g l)
 
 is-barred-requires : tie.Need-is-barred-requires
@@ -81,43 +92,62 @@ is-barred-requires c κs = search needs
 
 returns-5 : tie.Need-returns-5
 returns-5 c =
-    let a = c .before .before .before .before .before .before .before .before .before .before .before .before .before .before .before .before .before .before .args in
-    let s = sym (c .before .before .before .before .before .before .before .before .before .before .before .before .before .before .judge-and-read .ensures .0) ∙ not-false _ (c .before .before .before .before .before .before .before .before .before .before .before .before .if1 .left) in
-    let r = came answerOfLast (c .before .before .before .before .before .before .before .before .before .before .before .request-last .ensures) (c .before .before .before .before .before .before .before .before .before .enum-told .given .1) in
-    let g = came answerOfGrant (c .before .before .before .before .before .before .before .before .before .before .before .before .before .before .before .before .serving-grant .ensures) (c .before .before .before .before .before .before .before .h .given .1) in
-    let i = c .before .before .before .before .before .before .before .before .before .before .before .before .before .before .before .slot-asked .ensures ∙ ap slotAsked (c .before .before .before .before .before .before .before .before .before .before .before .before .before .before .before .before .serving-grant .ensures) in
-    let starts = c .before .before .before .before .before .before .before .before .before .before .before .before .before .before .judge-and-read .result .read .starts in
+    let after-h = c .before .before .before .before .before .before .before in
+    let after-if1 = after-h .before .before .before .before .before in
+    let after-slot-asked = after-if1 .before .before .before in
+    let a = after-slot-asked .before .before .before .args in
+    let s = sym (after-if1 .before .before .judge-and-read .ensures .0) ∙ not-false _ (after-if1 .if1 .left) in
+    let r = came answerOfLast (after-h .before .before .before .before .request-last .ensures)
+    (after-h .before .before .enum-told .given .1) in
+    let g = came answerOfGrant (after-slot-asked .before .serving-grant .ensures) (after-h .h .given .1) in
+    let i = after-slot-asked .slot-asked .ensures ∙ ap slotAsked (after-slot-asked .before .serving-grant .ensures) in
+    let starts = after-if1 .before .before .judge-and-read .result .read .starts in
     let l = sym (body-asked (a .t) (now (a .store)) s (a .write) (a .offset) _ _ g i)
-    ∙ came (λ (x : LayoutAnswer). answerOfLayout x starts) (c .before .before .before .before .before .before .before .before .before .before .before .before .before .before .judge-and-read .ensures .1) (c .before .before .before .a .given .1) in
+    ∙ came (λ (x : LayoutAnswer). answerOfLayout x starts) (after-if1 .before .before .judge-and-read .ensures .1)
+    (c .before .before .before .a .given .1) in
     sym (not-served (a .write) (a .t) (now (a .store)) (a .offset) (a .len) _ _ s r
-    (barred (a .write) (a .t) (a .offset) (now (a .store)) _ _ g l (sym (c .before .is-barred .ensures) ∙ c .if2 .taken)))
+    (barred (a .write) (a .t) (a .offset) (now (a .store)) _ _ g l
+    (sym (c .before .is-barred .ensures) ∙ c .if2 .taken)))
 
 piece-at-requires : tie.Need-piece-at-requires
 piece-at-requires c κs =
-    let a = c .before .before .before .before .before .before .before .before .before .before .before .before .before .before .before .before .before .before .before .args in
-    let s = sym (c .before .before .before .before .before .before .before .before .before .before .before .before .before .before .before .judge-and-read .ensures .0) ∙ not-false _ (c .before .before .before .before .before .before .before .before .before .before .before .before .before .if1 .left) in
-    let r = came answerOfLast (c .before .before .before .before .before .before .before .before .before .before .before .before .request-last .ensures) (c .before .before .before .before .before .before .before .before .before .before .enum-told .given .1) in
-    let g = came answerOfGrant (c .before .before .before .before .before .before .before .before .before .before .before .before .before .before .before .before .before .serving-grant .ensures) (c .before .before .before .before .before .before .before .before .h .given .1) in
-    let i = c .before .before .before .before .before .before .before .before .before .before .before .before .before .before .before .before .slot-asked .ensures ∙ ap slotAsked (c .before .before .before .before .before .before .before .before .before .before .before .before .before .before .before .before .before .serving-grant .ensures) in
-    let starts = c .before .before .before .before .before .before .before .before .before .before .before .before .before .before .before .judge-and-read .result .read .starts in
+    let after-a = c .before .before .before .before in
+    let after-h = after-a .before .before .before .before in
+    let after-if1 = after-h .before .before .before .before .before in
+    let after-slot-asked = after-if1 .before .before .before in
+    let a = after-slot-asked .before .before .before .args in
+    let s = sym (after-if1 .before .before .judge-and-read .ensures .0) ∙ not-false _ (after-if1 .if1 .left) in
+    let r = came answerOfLast (after-h .before .before .before .before .request-last .ensures)
+    (after-h .before .before .enum-told .given .1) in
+    let g = came answerOfGrant (after-slot-asked .before .serving-grant .ensures) (after-h .h .given .1) in
+    let i = after-slot-asked .slot-asked .ensures ∙ ap slotAsked (after-slot-asked .before .serving-grant .ensures) in
+    let starts = after-if1 .before .before .judge-and-read .result .read .starts in
     let l = sym (body-asked (a .t) (now (a .store)) s (a .write) (a .offset) _ _ g i)
-    ∙ came (λ (x : LayoutAnswer). answerOfLayout x starts) (c .before .before .before .before .before .before .before .before .before .before .before .before .before .before .before .judge-and-read .ensures .1) (c .before .before .before .before .a .given .1) in
+    ∙ came (λ (x : LayoutAnswer). answerOfLayout x starts) (after-if1 .before .before .judge-and-read .ensures .1)
+    (after-a .a .given .1) in
     served-limits (a .write) (a .t) (now (a .store)) (a .offset) (a .len) _ _ r
-    (not-barred (a .write) (a .t) (a .offset) (now (a .store)) _ _ g l (sym (c .before .before .is-barred .ensures) ∙ c .before .if2 .left))
+    (not-barred (a .write) (a .t) (a .offset) (now (a .store)) _ _ g l
+    (sym (c .before .before .is-barred .ensures) ∙ c .before .if2 .left))
 
 returns-6 : tie.Need-returns-6
 returns-6 c =
-    let a = c .before .before .before .before .before .before .before .before .before .before .before .before .before .before .before .before .before .before .before .before .args in
-    let s = sym (c .before .before .before .before .before .before .before .before .before .before .before .before .before .before .before .before .judge-and-read .ensures .0) ∙ not-false _ (c .before .before .before .before .before .before .before .before .before .before .before .before .before .before .if1 .left) in
-    let r = came answerOfLast (c .before .before .before .before .before .before .before .before .before .before .before .before .before .request-last .ensures) (c .before .before .before .before .before .before .before .before .before .before .before .enum-told .given .1) in
-    let g = came answerOfGrant (c .before .before .before .before .before .before .before .before .before .before .before .before .before .before .before .before .before .before .serving-grant .ensures) (c .before .before .before .before .before .before .before .before .before .h .given .1) in
-    let i = c .before .before .before .before .before .before .before .before .before .before .before .before .before .before .before .before .before .slot-asked .ensures ∙ ap slotAsked (c .before .before .before .before .before .before .before .before .before .before .before .before .before .before .before .before .before .before .serving-grant .ensures) in
-    let starts = c .before .before .before .before .before .before .before .before .before .before .before .before .before .before .before .before .judge-and-read .result .read .starts in
+    let after-a = c .before .before .before .before .before in
+    let after-h = after-a .before .before .before .before in
+    let after-if1 = after-h .before .before .before .before .before in
+    let after-slot-asked = after-if1 .before .before .before in
+    let a = after-slot-asked .before .before .before .args in
+    let s = sym (after-if1 .before .before .judge-and-read .ensures .0) ∙ not-false _ (after-if1 .if1 .left) in
+    let r = came answerOfLast (after-h .before .before .before .before .request-last .ensures)
+    (after-h .before .before .enum-told .given .1) in
+    let g = came answerOfGrant (after-slot-asked .before .serving-grant .ensures) (after-h .h .given .1) in
+    let i = after-slot-asked .slot-asked .ensures ∙ ap slotAsked (after-slot-asked .before .serving-grant .ensures) in
+    let starts = after-if1 .before .before .judge-and-read .result .read .starts in
     let l = sym (body-asked (a .t) (now (a .store)) s (a .write) (a .offset) _ _ g i)
-    ∙ came (λ (x : LayoutAnswer). answerOfLayout x starts) (c .before .before .before .before .before .before .before .before .before .before .before .before .before .before .before .before .judge-and-read .ensures .1) (c .before .before .before .before .before .a .given .1) in
+    ∙ came (λ (x : LayoutAnswer). answerOfLayout x starts) (after-if1 .before .before .judge-and-read .ensures .1)
+    (after-a .a .given .1) in
     is-served (a .write) (a .t) (now (a .store)) (a .offset) (a .len) _ _ _ s r
-    (not-barred (a .write) (a .t) (a .offset) (now (a .store)) _ _ g l (sym (c .before .before .before .is-barred .ensures) ∙ c .before .before .if2 .left))
-    (c .piece-at .ensures)
+    (not-barred (a .write) (a .t) (a .offset) (now (a .store)) _ _ g l
+    (sym (c .before .before .before .is-barred .ensures) ∙ c .before .before .if2 .left)) (c .piece-at .ensures)
 
 pub locate-spec : {M : Type 1} → statement M
 locate-spec =

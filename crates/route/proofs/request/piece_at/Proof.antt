@@ -1,4 +1,4 @@
--- `route::request::piece_at` meets its contract.
+-- `route::request::piece_at` meets its contract: stripe, length and mirrors, each from its callee.
 use Rattle.route.proofs.RouteLaws.{piece-is}
 use borrow.Author.Needs.{needs}
 use denote.Ref.{now}

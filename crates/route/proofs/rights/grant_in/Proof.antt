@@ -45,10 +45,14 @@ grant-of-requires c κs = search needs
 
 returns-2 : tie.Need-returns-2 Inv-loop μ-loop
 returns-2 c =
-    let g = c .before .before .before .before .before .before .before .args .t2 in
+    let at-loop = c .before .before .before .before .before .before in
+    let g = at-loop .before .args .t2 in
     let h : length (g .items) ≡ 32 = search (needs, mapped-long) in
     let e : length (listOf g) ≡ min (g .count) 32 = length-used g h in
-    c .grant-of .ensures ∙ sym (c .before .before .before .before .before .before .loop .inv .1 ∙ (grant-next (c .before .before .before .before .before .before .before .args .iomode) (c .before .before .before .before .before .before .before .args .x) g (c .before .before .before .before .before .before .loop .i) blank (omega arith) ∙ pick-true _ _ _ (sym (c .before .before .holds-byte .ensures) ∙ c .before .if2 .taken)))
+    c .grant-of .ensures
+    ∙ sym (at-loop .loop .inv .1
+    ∙ (grant-next (at-loop .before .args .iomode) (at-loop .before .args .x) g (at-loop .loop .i) blank (omega arith)
+    ∙ pick-true _ _ _ (sym (c .before .before .holds-byte .ensures) ∙ c .before .if2 .taken)))
 
 add-i : tie.Need-add-i Inv-loop μ-loop
 add-i c = search needs
@@ -58,10 +62,15 @@ loop-less c = search needs
 
 loop-again : tie.Need-loop-again Inv-loop μ-loop
 loop-again c =
-    let g = c .before .before .before .before .before .before .args .t2 in
+    let at-loop = c .before .before .before .before .before in
+    let g = at-loop .before .args .t2 in
     let h : length (g .items) ≡ 32 = search (needs, mapped-long) in
-    let e : length (listOf g) ≡ min (g .count) 32 = length-used g h in
-    (omega arith, c .before .before .before .before .before .loop .inv .1 ∙ (grant-next (c .before .before .before .before .before .before .args .iomode) (c .before .before .before .before .before .before .args .x) g (c .before .before .before .before .before .loop .i) blank (omega arith) ∙ pick-false _ _ _ (sym (c .before .holds-byte .ensures) ∙ c .if2 .left)))
+    let e : length (listOf g) ≡ min (g .count) 32 = length-used g h in (
+      omega arith,
+      at-loop .loop .inv .1
+          ∙ (grant-next (at-loop .before .args .iomode) (at-loop .before .args .x) g (at-loop .loop .i) blank
+          (omega arith) ∙ pick-false _ _ _ (sym (c .before .holds-byte .ensures) ∙ c .if2 .left)),
+    )
 
 returns-3 : tie.Need-returns-3 Inv-loop μ-loop
 returns-3 c =

@@ -1,4 +1,4 @@
--- `route::rights::grant_of` meets its contract.
+-- `route::rights::grant_of` meets its contract: one way out for each case of the right.
 use Rattle.route.specs.Routes.{grantOf}
 use Rattle.segments.specs.declared.Right.{Right}
 use borrow.Author.Needs.{needs}

@@ -1,4 +1,4 @@
--- `route::rights::holds_byte` meets its contract.
+-- `route::rights::holds_byte` meets its contract: each comparison is the test of the definition.
 use borrow.Author.Tests.{le-leb, lt-leb}
 use Rattle.route.proofs.rights.holds_byte.Statement.{statement}
 use Rattle.route.proofs.rights.holds_byte.Tie as tie

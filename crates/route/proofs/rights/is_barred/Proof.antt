@@ -1,4 +1,4 @@
--- `route::rights::is_barred` meets its contract.
+-- `route::rights::is_barred` meets its contract: a write, then one way out for each iomode.
 use borrow.Author.Needs.{needs}
 use Rattle.route.proofs.rights.is_barred.Statement.{statement}
 use Rattle.route.proofs.rights.is_barred.Tie as tie

@@ -1,4 +1,4 @@
--- `route::rights::serving_grant` meets its contract.
+-- `route::rights::serving_grant` meets its contract: a read by the read list where it grants, else the other list.
 use Rattle.route.proofs.RouteLaws.{read-is-missing, read-serves, rw-alone}
 use Rattle.route.specs.Answers.{answerOfGrant}
 use Rattle.route.specs.Routes.{grantAt, servingGrant}

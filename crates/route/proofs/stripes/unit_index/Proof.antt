@@ -1,4 +1,4 @@
--- `route::stripes::unit_index` meets its contract.
+-- `route::stripes::unit_index` meets its contract: both sides are the same quotient.
 use borrow.Author.Needs.{needs}
 use mathlib.Core.Path.{refl}
 use Rattle.route.proofs.stripes.unit_index.Statement.{statement}

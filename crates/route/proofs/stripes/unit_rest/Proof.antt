@@ -1,4 +1,4 @@
--- `route::stripes::unit_rest` meets its contract.
+-- `route::stripes::unit_rest` meets its contract: a remainder is below its divisor.
 use Rattle.route.specs.Stripes.{unitRest}
 use borrow.Author.Needs.{needs}
 use mathlib.Core.Path.{refl}

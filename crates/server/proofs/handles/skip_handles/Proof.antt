@@ -36,8 +36,14 @@ why-part-requires c κs = search needs
 returns : tie.Need-returns Inv-loop μ-loop
 unfolding handlesAt
 returns c =
-    let l = c .before .before .before .before .before .loop in
-    rw (l .inv, first-refuses (opaqueAt 1 128) (l .left) (now (c .before .before .before .before .before .before .before .args .s)) (l .d .at) _ (omega arith) (handed resOfPart (c .before .before .before .read-opaque .ensures) (c .before .enum-told .given .1) (c .why-part .ensures) refl))
+    let at-loop = c .before .before .before .before .before in
+    let l = at-loop .loop in
+    rw (
+      l .inv,
+      first-refuses (opaqueAt 1 128) (l .left) (now (at-loop .before .before .args .s)) (l .d .at) _ (omega arith)
+          (handed resOfPart (c .before .before .before .read-opaque .ensures) (c .before .enum-told .given .1)
+          (c .why-part .ensures) refl),
+    )
 
 sub-left : tie.Need-sub-left Inv-loop μ-loop
 sub-left c = search needs
@@ -48,8 +54,11 @@ loop-less c = search needs
 loop-again : tie.Need-loop-again Inv-loop μ-loop
 unfolding handlesAt
 loop-again c =
-    let l = c .before .before .before .before .before .loop in
-    l .inv ∙ others-end (opaqueAt 1 128) (l .left) (now (c .before .before .before .before .before .before .before .args .s)) (l .d .at) _ _ (omega arith) (came resOfPart (c .before .before .before .read-opaque .ensures) (c .before .r .given .1))
+    let at-loop = c .before .before .before .before .before in
+    let l = at-loop .loop in
+    l .inv
+    ∙ others-end (opaqueAt 1 128) (l .left) (now (at-loop .before .before .args .s)) (l .d .at) _ _ (omega arith)
+    (came resOfPart (c .before .before .before .read-opaque .ensures) (c .before .r .given .1))
 
 returns-2 : tie.Need-returns-2 Inv-loop μ-loop
 unfolding handlesAt

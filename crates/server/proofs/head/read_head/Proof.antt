@@ -38,7 +38,13 @@ why-u32-requires c κs = search needs
 
 returns-2 : tie.Need-returns-2
 unfolding headAt then
-returns-2 c = rw (came resOfPart (c .before .before .before .before .before .before .before .read-bytes .ensures) (c .before .before .before .before .before .d .given .1), handed resOfU32 (c .before .before .before .read-u32 .ensures) (c .before .enum-told2 .given .1) (c .why-u32 .ensures) refl)
+returns-2 c =
+    let after-d = c .before .before .before .before .before in
+    rw (
+      came resOfPart (after-d .before .before .read-bytes .ensures) (after-d .d .given .1),
+      handed resOfU32 (c .before .before .before .read-u32 .ensures) (c .before .enum-told2 .given .1)
+          (c .why-u32 .ensures) refl,
+    )
 
 read-bytes-requires-2 : tie.Need-read-bytes-requires-2
 read-bytes-requires-2 c κs = search needs
@@ -54,7 +60,15 @@ why-part-requires-2 c κs = search needs
 
 returns-3 : tie.Need-returns-3
 unfolding headAt then
-returns-3 c = rw (came resOfPart (c .before .before .before .before .before .before .before .before .before .before .before .read-bytes .ensures) (c .before .before .before .before .before .before .before .before .before .d .given .1), came resOfU32 (c .before .before .before .before .before .before .before .read-u32 .ensures) (c .before .before .before .before .before .e .given .1), handed resOfPart (c .before .before .before .read-bytes2 .ensures) (c .before .enum-told3 .given .1) (c .why-part2 .ensures) refl)
+returns-3 c =
+    let after-e = c .before .before .before .before .before in
+    let after-d = after-e .before .before .before .before in
+    rw (
+      came resOfPart (after-d .before .before .read-bytes .ensures) (after-d .d .given .1),
+      came resOfU32 (after-e .before .before .read-u32 .ensures) (after-e .e .given .1),
+      handed resOfPart (c .before .before .before .read-bytes2 .ensures) (c .before .enum-told3 .given .1)
+          (c .why-part2 .ensures) refl,
+    )
 
 read-count-requires : tie.Need-read-count-requires
 read-count-requires c κs = search needs
@@ -70,11 +84,30 @@ why-u32-requires-2 c κs = search needs
 
 returns-4 : tie.Need-returns-4
 unfolding headAt then
-returns-4 c = rw (came resOfPart (c .before .before .before .before .before .before .before .before .before .before .before .before .before .before .before .read-bytes .ensures) (c .before .before .before .before .before .before .before .before .before .before .before .before .before .d .given .1), came resOfU32 (c .before .before .before .before .before .before .before .before .before .before .before .read-u32 .ensures) (c .before .before .before .before .before .before .before .before .before .e .given .1), came resOfPart (c .before .before .before .before .before .before .before .read-bytes2 .ensures) (c .before .before .before .before .before .t .given .1), handed resOfU32 (c .before .before .before .read-count .ensures) (c .before .enum-told4 .given .1) (c .why-u322 .ensures) refl)
+returns-4 c =
+    let after-t = c .before .before .before .before .before in
+    let after-e = after-t .before .before .before .before in
+    let after-d = after-e .before .before .before .before in
+    rw (
+      came resOfPart (after-d .before .before .read-bytes .ensures) (after-d .d .given .1),
+      came resOfU32 (after-e .before .before .read-u32 .ensures) (after-e .e .given .1),
+      came resOfPart (after-t .before .before .read-bytes2 .ensures) (after-t .t .given .1),
+      handed resOfU32 (c .before .before .before .read-count .ensures) (c .before .enum-told4 .given .1)
+          (c .why-u322 .ensures) refl,
+    )
 
 returns-5 : tie.Need-returns-5
 unfolding headAt then
-returns-5 c = rw (came resOfPart (c .before .before .before .before .before .before .before .before .before .before .before .before .before .before .before .read-bytes .ensures) (c .before .before .before .before .before .before .before .before .before .before .before .before .before .d .given .1), came resOfU32 (c .before .before .before .before .before .before .before .before .before .before .before .read-u32 .ensures) (c .before .before .before .before .before .before .before .before .before .e .given .1), came resOfPart (c .before .before .before .before .before .before .before .read-bytes2 .ensures) (c .before .before .before .before .before .t .given .1), came resOfU32 (c .before .before .before .read-count .ensures) (c .before .n .given .1))
+returns-5 c =
+    let after-t = c .before .before .before .before .before in
+    let after-e = after-t .before .before .before .before in
+    let after-d = after-e .before .before .before .before in
+    rw (
+      came resOfPart (after-d .before .before .read-bytes .ensures) (after-d .d .given .1),
+      came resOfU32 (after-e .before .before .read-u32 .ensures) (after-e .e .given .1),
+      came resOfPart (after-t .before .before .read-bytes2 .ensures) (after-t .t .given .1),
+      came resOfU32 (c .before .before .before .read-count .ensures) (c .before .n .given .1),
+    )
 
 pub read-head-spec : {M : Type 1} → statement M
 read-head-spec =

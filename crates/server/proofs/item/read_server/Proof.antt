@@ -40,7 +40,12 @@ why-end-requires c κs = search needs
 
 returns-2 : tie.Need-returns-2
 unfolding serverAt then
-returns-2 c = rw (came resOfHead (c .before .before .before .before .before .before .before .read-head .ensures) (c .before .before .before .before .before .h .given .1)) (sym (end-refused _ _ _ (handed resOfEnd (c .before .before .before .skip-handles .ensures) (c .before .enum-told2 .given .1) (c .why-end .ensures) refl)))
+returns-2 c =
+    let after-h = c .before .before .before .before .before in
+    rw (came resOfHead (after-h .before .before .read-head .ensures) (after-h .h .given .1))
+    (sym (end-refused _ _ _
+    (handed resOfEnd (c .before .before .before .skip-handles .ensures) (c .before .enum-told2 .given .1)
+    (c .why-end .ensures) refl)))
 
 read-opaque-requires : tie.Need-read-opaque-requires
 read-opaque-requires c κs = search needs
@@ -56,7 +61,13 @@ why-part-requires c κs = search needs
 
 returns-3 : tie.Need-returns-3
 unfolding serverAt then
-returns-3 c = rw (came resOfHead (c .before .before .before .before .before .before .before .before .before .before .before .read-head .ensures) (c .before .before .before .before .before .before .before .before .before .h .given .1)) (sym (end-then _ _ _ (came resOfEnd (c .before .before .before .before .before .before .before .skip-handles .ensures) (c .before .before .before .before .before .n .given .1)) ∙ rw (handed resOfPart (c .before .before .before .read-opaque .ensures) (c .before .enum-told3 .given .1) (c .why-part .ensures) refl)))
+returns-3 c =
+    let after-n = c .before .before .before .before .before in
+    let after-h = after-n .before .before .before .before in
+    rw (came resOfHead (after-h .before .before .read-head .ensures) (after-h .h .given .1))
+    (sym (end-then _ _ _ (came resOfEnd (after-n .before .before .skip-handles .ensures) (after-n .n .given .1))
+    ∙ rw (handed resOfPart (c .before .before .before .read-opaque .ensures) (c .before .enum-told3 .given .1)
+    (c .why-part .ensures) refl)))
 
 read-opaque-requires-2 : tie.Need-read-opaque-requires-2
 read-opaque-requires-2 c κs = search needs
@@ -72,11 +83,30 @@ why-part-requires-2 c κs = search needs
 
 returns-4 : tie.Need-returns-4
 unfolding serverAt then
-returns-4 c = rw (came resOfHead (c .before .before .before .before .before .before .before .before .before .before .before .before .before .before .before .read-head .ensures) (c .before .before .before .before .before .before .before .before .before .before .before .before .before .h .given .1)) (sym (end-then _ _ _ (came resOfEnd (c .before .before .before .before .before .before .before .before .before .before .before .skip-handles .ensures) (c .before .before .before .before .before .before .before .before .before .n .given .1)) ∙ rw (came resOfPart (c .before .before .before .before .before .before .before .read-opaque .ensures) (c .before .before .before .before .before .u .given .1), handed resOfPart (c .before .before .before .read-opaque2 .ensures) (c .before .enum-told4 .given .1) (c .why-part2 .ensures) refl)))
+returns-4 c =
+    let after-u = c .before .before .before .before .before in
+    let after-n = after-u .before .before .before .before in
+    let after-h = after-n .before .before .before .before in
+    rw (came resOfHead (after-h .before .before .read-head .ensures) (after-h .h .given .1))
+    (sym (end-then _ _ _ (came resOfEnd (after-n .before .before .skip-handles .ensures) (after-n .n .given .1))
+    ∙ rw (
+      came resOfPart (after-u .before .before .read-opaque .ensures) (after-u .u .given .1),
+      handed resOfPart (c .before .before .before .read-opaque2 .ensures) (c .before .enum-told4 .given .1)
+          (c .why-part2 .ensures) refl,
+    )))
 
 returns-5 : tie.Need-returns-5
 unfolding serverAt then
-returns-5 c = rw (came resOfHead (c .before .before .before .before .before .before .before .before .before .before .before .before .before .before .before .read-head .ensures) (c .before .before .before .before .before .before .before .before .before .before .before .before .before .h .given .1)) (sym (end-then _ _ _ (came resOfEnd (c .before .before .before .before .before .before .before .before .before .before .before .skip-handles .ensures) (c .before .before .before .before .before .before .before .before .before .n .given .1)) ∙ rw (came resOfPart (c .before .before .before .before .before .before .before .read-opaque .ensures) (c .before .before .before .before .before .u .given .1), came resOfPart (c .before .before .before .read-opaque2 .ensures) (c .before .g .given .1))))
+returns-5 c =
+    let after-u = c .before .before .before .before .before in
+    let after-n = after-u .before .before .before .before in
+    let after-h = after-n .before .before .before .before in
+    rw (came resOfHead (after-h .before .before .read-head .ensures) (after-h .h .given .1))
+    (sym (end-then _ _ _ (came resOfEnd (after-n .before .before .skip-handles .ensures) (after-n .n .given .1))
+    ∙ rw (
+      came resOfPart (after-u .before .before .read-opaque .ensures) (after-u .u .given .1),
+      came resOfPart (c .before .before .before .read-opaque2 .ensures) (c .before .g .given .1),
+    )))
 
 pub read-server-spec : {M : Type 1} → statement M
 read-server-spec =

@@ -26,8 +26,11 @@ same-length c = search needs
 
 returns-3 : tie.Need-returns-3
 returns-3 c =
-    let a = c .before .before .before .before .before .before .before .args in
-    c .before .before .clear-slot .ensures ∙ cleared-one (a .was) (a .is) (slotSet (now (a .store)) (a .i .0) empty) (now (a .store)) (not-false _ (c .before .before .before .before .before .if1 .left)) (c .before .before .before .before .if2 .left)
+    let after-if2 = c .before .before .before .before in
+    let a = after-if2 .before .before .before .args in
+    c .before .before .clear-slot .ensures
+    ∙ cleared-one (a .was) (a .is) (slotSet (now (a .store)) (a .i .0) empty) (now (a .store))
+    (not-false _ (after-if2 .before .if1 .left)) (after-if2 .if2 .left)
 
 pub clear-if-unnamed-spec : {M : Type 1} → statement M
 clear-if-unnamed-spec =

@@ -28,7 +28,13 @@ is-held-from-requires : tie.Need-is-held-from-requires
 is-held-from-requires c κs = search needs
 
 returns-2 : tie.Need-returns-2
-returns-2 c = λ t e. rw (named-here t _ (c .before .before .before .before .before .before .before .args .i .0) e (c .before .before .before .before .before .before .before .pre) ∙ not-false _ (c .before .before .before .before .if1 .left), ← (c .before .before .before .slot-bytes .ensures), ← (c .before .before .slot-body .ensures)) (c .is-held-from .ensures t e)
+returns-2 c =
+    let start = c .before .before .before .before .before .before .before in
+    λ t e. rw (
+      named-here t _ (start .args .i .0) e (start .pre) ∙ not-false _ (c .before .before .before .before .if1 .left),
+      ← (c .before .before .before .slot-bytes .ensures),
+      ← (c .before .before .slot-body .ensures),
+    ) (c .is-held-from .ensures t e)
 
 pub is-held-again-spec : {M : Type 1} → statement M
 is-held-again-spec =

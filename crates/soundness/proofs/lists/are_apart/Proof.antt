@@ -14,13 +14,18 @@ sub-if2 : tie.Need-sub-if2
 sub-if2 c = search needs
 
 returns-2 : tie.Need-returns-2
-returns-2 c = sym (gap (c .before .before .before .before .before .before .args .a) (c .before .before .before .before .before .before .args .b) (omega arith) (c .if2 .taken))
+returns-2 c =
+    let start = c .before .before .before .before .before .before in
+    sym (gap (start .args .a) (start .args .b) (omega arith) (c .if2 .taken))
 
 same-right-requires : tie.Need-same-right-requires
 same-right-requires c κs = search needs
 
 returns-3 : tie.Need-returns-3
-returns-3 c = ap not (c .same-right .ensures) ∙ sym (touch (c .before .before .before .before .before .before .before .args .a) (c .before .before .before .before .before .before .before .args .b) (omega arith) (c .before .if2 .left))
+returns-3 c =
+    let start = c .before .before .before .before .before .before .before in
+    ap not (c .same-right .ensures)
+    ∙ sym (touch (start .args .a) (start .args .b) (omega arith) (c .before .if2 .left))
 
 pub are-apart-spec : {M : Type 1} → statement M
 are-apart-spec = tie.close (tie.spec returns sub-if2 returns-2 same-right-requires returns-3)

@@ -46,11 +46,17 @@ is-fit-requires c κs = search needs
 returns-2 : tie.Need-returns-2 Inv-loop μ-loop Inv-loop2 μ-loop2
 unfolding segmentsSound inOrder
 returns-2 c =
-    let l = c .before .before .before .before .loop in
-    let g = c .before .before .before .before .before .before .args .t1 in
+    let at-loop = c .before .before .before .before in
+    let l = at-loop .loop in
+    let g = at-loop .before .before .args .t1 in
     let h : length (g .items) ≡ 32 = search (needs, mapped-long) in
     let e : length (listOf g) ≡ min (g .count) 32 = length-used g h in
-    rw (le-leb _ _ (c .before .before .before .before .before .if1 .left), l .inv .1, next-segment g (l .k) blank (omega arith), sym (c .before .is-fit .ensures) ∙ not-true _ (c .if2 .taken))
+    rw (
+      le-leb _ _ (at-loop .before .if1 .left),
+      l .inv .1,
+      next-segment g (l .k) blank (omega arith),
+      sym (c .before .is-fit .ensures) ∙ not-true _ (c .if2 .taken),
+    )
 
 add-k : tie.Need-add-k Inv-loop μ-loop Inv-loop2 μ-loop2
 add-k c = omega arith
@@ -67,11 +73,20 @@ are-apart-requires c κs = search needs
 returns-3 : tie.Need-returns-3 Inv-loop μ-loop Inv-loop2 μ-loop2
 unfolding segmentsSound inOrder apartFromNext
 returns-3 c =
-    let l = c .before .before .before .before .before .before .before .before .loop in
-    let g = c .before .before .before .before .before .before .before .before .before .before .args .t1 in
+    let after-if2 = c .before .before .before .before in
+    let at-loop = after-if2 .before .before .before .before in
+    let l = at-loop .loop in
+    let g = at-loop .before .before .args .t1 in
     let h : length (g .items) ≡ 32 = search (needs, mapped-long) in
     let e : length (listOf g) ≡ min (g .count) 32 = length-used g h in
-    rw (le-leb _ _ (c .before .before .before .before .before .before .before .before .before .if1 .left), l .inv .1, next-segment g (l .k) blank (omega arith), sym (c .before .before .before .before .before .is-fit .ensures) ∙ not-false _ (c .before .before .before .before .if2 .left), next-segment g (l .k + 1) blank (omega arith), sym (c .before .are-apart .ensures) ∙ not-true _ (c .if4 .taken))
+    rw (
+      le-leb _ _ (at-loop .before .if1 .left),
+      l .inv .1,
+      next-segment g (l .k) blank (omega arith),
+      sym (after-if2 .before .is-fit .ensures) ∙ not-false _ (after-if2 .if2 .left),
+      next-segment g (l .k + 1) blank (omega arith),
+      sym (c .before .are-apart .ensures) ∙ not-true _ (c .if4 .taken),
+    )
 
 loop-less : tie.Need-loop-less Inv-loop μ-loop Inv-loop2 μ-loop2
 loop-less c = search needs
@@ -79,11 +94,21 @@ loop-less c = search needs
 loop-again : tie.Need-loop-again Inv-loop μ-loop Inv-loop2 μ-loop2
 unfolding inOrder apartFromNext
 loop-again c =
-    let l = c .before .before .before .before .before .before .before .before .loop in
-    let g = c .before .before .before .before .before .before .before .before .before .before .args .t1 in
+    let after-if2 = c .before .before .before .before in
+    let at-loop = after-if2 .before .before .before .before in
+    let l = at-loop .loop in
+    let g = at-loop .before .before .args .t1 in
     let h : length (g .items) ≡ 32 = search (needs, mapped-long) in
-    let e : length (listOf g) ≡ min (g .count) 32 = length-used g h in
-    (omega arith, rw (l .inv .1, next-segment g (l .k) blank (omega arith), sym (c .before .before .before .before .before .is-fit .ensures) ∙ not-false _ (c .before .before .before .before .if2 .left), next-segment g (l .k + 1) blank (omega arith), sym (c .before .are-apart .ensures) ∙ not-false _ (c .if4 .left)))
+    let e : length (listOf g) ≡ min (g .count) 32 = length-used g h in (
+      omega arith,
+      rw (
+        l .inv .1,
+        next-segment g (l .k) blank (omega arith),
+        sym (after-if2 .before .is-fit .ensures) ∙ not-false _ (after-if2 .if2 .left),
+        next-segment g (l .k + 1) blank (omega arith),
+        sym (c .before .are-apart .ensures) ∙ not-false _ (c .if4 .left),
+      ),
+    )
 
 loop-less-2 : tie.Need-loop-less-2 Inv-loop μ-loop Inv-loop2 μ-loop2
 loop-less-2 c = search needs
@@ -91,11 +116,19 @@ loop-less-2 c = search needs
 loop-again-2 : tie.Need-loop-again-2 Inv-loop μ-loop Inv-loop2 μ-loop2
 unfolding inOrder apartFromNext
 loop-again-2 c =
-    let l = c .before .before .before .before .before .loop in
-    let g = c .before .before .before .before .before .before .before .args .t1 in
+    let at-loop = c .before .before .before .before .before in
+    let l = at-loop .loop in
+    let g = at-loop .before .before .args .t1 in
     let h : length (g .items) ≡ 32 = search (needs, mapped-long) in
-    let e : length (listOf g) ≡ min (g .count) 32 = length-used g h in
-    (omega arith, rw (l .inv .1, next-segment g (l .k) blank (omega arith), sym (c .before .before .is-fit .ensures) ∙ not-false _ (c .before .if2 .left), no-segment g (l .k + 1) (omega arith)))
+    let e : length (listOf g) ≡ min (g .count) 32 = length-used g h in (
+      omega arith,
+      rw (
+        l .inv .1,
+        next-segment g (l .k) blank (omega arith),
+        sym (c .before .before .is-fit .ensures) ∙ not-false _ (c .before .if2 .left),
+        no-segment g (l .k + 1) (omega arith),
+      ),
+    )
 
 loop2-holds : tie.Need-loop2-holds Inv-loop μ-loop Inv-loop2 μ-loop2
 loop2-holds c =
@@ -120,8 +153,9 @@ loop2-less c = omega arith
 
 loop2-again : tie.Need-loop2-again Inv-loop μ-loop Inv-loop2 μ-loop2
 loop2-again c =
-    let m = c .before .before .before .loop2 in
-    let g = c .before .before .before .before .before .before .before .args .t1 in
+    let at-loop2 = c .before .before .before in
+    let m = at-loop2 .loop2 in
+    let g = at-loop2 .before .before .before .before .args .t1 in
     let h : length (g .items) ≡ 32 = search (needs, mapped-long) in
     rw (c .is-blank .ensures) (m .inv ∙ blank-passed (g .items) (m .k) blank (m .blank) (omega arith))
 

@@ -1,3 +1,4 @@
+-- `soundness::slots::is_accepted` meets its contract: one way out for each case of the answer.
 use Rattle.layout.specs.Answers.{answerOfLayout}
 use Rattle.reference.specs.Sound.{isAccepted}
 use borrow.Author.Needs.{needs}

@@ -38,7 +38,16 @@ all-zero-requires c κs = search needs
 
 returns-4 : tie.Need-returns-4
 unfolding slotSound
-returns-4 c = λ starts e. rw (← (c .before .before .before .before .before .before .slot-length .ensures), le-leb _ _ (c .before .before .before .before .before .if1 .left), ← (c .before .before .before .before .slot-kind .ensures), eq-eqb _ _ (c .before .before .before .if2 .left), ← e, sym (c .before .before .is-accepted .ensures starts) ∙ not-false _ (c .before .if3 .left)) (c .all-zero .ensures)
+returns-4 c =
+    let after-if2 = c .before .before .before in
+    λ starts e. rw (
+      ← (after-if2 .before .before .before .slot-length .ensures),
+      le-leb _ _ (after-if2 .before .before .if1 .left),
+      ← (after-if2 .before .slot-kind .ensures),
+      eq-eqb _ _ (after-if2 .if2 .left),
+      ← e,
+      sym (c .before .before .is-accepted .ensures starts) ∙ not-false _ (c .before .if3 .left),
+    ) (c .all-zero .ensures)
 
 pub is-filled-spec : {M : Type 1} → statement M
 is-filled-spec =

@@ -62,13 +62,20 @@ is-filled-requires c κs = search needs
 
 returns : tie.Need-returns Inv-loop μ-loop
 returns c =
-    let l = c .before .before .before .before .before .before .before .loop in
-    let f = c .before .before .before .before .before .before .before .before .before .unsound .ensures .0 in
-    let q = c .before .is-filled .ensures (c .before .before .read-layout .result .starts) (c .before .before .read-layout .ensures .0 ∙ ap layoutBody (c .before .before .before .slot-body .ensures)) in
-    λ t e.
-    let s : slotSound (isNamed t (l .i)) (slotAt (now (c .before .before .before .before .before .before .before .before .before .before .before .args .store)) (l .i)) ≡ false =
-    rw (named-here t _ (l .i) e (omega arith) ∙ c .before .before .before .before .if1 .taken, ← (c .before .before .before .before .before .slot-bytes .ensures)) (sym q ∙ not-true _ (c .if2 .taken)) in
-    (f ∙ sym (l .inv .1 t e .0 ∙ slot-fails t (now (c .before .before .before .before .before .before .before .before .before .before .before .args .store)) 8 (l .i) (omega arith) s), λ k. absurd (false≢true (sym f ∙ k)))
+    let after-if1 = c .before .before .before .before in
+    let at-loop = after-if1 .before .before .before in
+    let start = at-loop .before .before .before .before in
+    let l = at-loop .loop in
+    let f = at-loop .before .before .unsound .ensures .0 in
+    let q = c .before .is-filled .ensures (c .before .before .read-layout .result .starts)
+    (c .before .before .read-layout .ensures .0 ∙ ap layoutBody (c .before .before .before .slot-body .ensures)) in
+    λ t e. let s : slotSound (isNamed t (l .i)) (slotAt (now (start .args .store)) (l .i)) ≡ false = rw (
+      named-here t _ (l .i) e (omega arith) ∙ after-if1 .if1 .taken,
+      ← (after-if1 .before .slot-bytes .ensures),
+    ) (sym q ∙ not-true _ (c .if2 .taken)) in (
+      f ∙ sym (l .inv .1 t e .0 ∙ slot-fails t (now (start .args .store)) 8 (l .i) (omega arith) s),
+      λ k. absurd (false≢true (sym f ∙ k)),
+    )
 
 all-zero-requires : tie.Need-all-zero-requires Inv-loop μ-loop
 all-zero-requires c κs = search needs
@@ -76,12 +83,17 @@ all-zero-requires c κs = search needs
 returns-2 : tie.Need-returns-2 Inv-loop μ-loop
 unfolding slotSound
 returns-2 c =
-    let l = c .before .before .before .before .before .loop in
-    let f = c .before .before .before .before .before .before .before .unsound .ensures .0 in
-    λ t e.
-    let s : slotSound (isNamed t (l .i)) (slotAt (now (c .before .before .before .before .before .before .before .before .before .args .store)) (l .i)) ≡ false =
-    rw (named-here t _ (l .i) e (omega arith) ∙ c .before .before .if1 .left, ← (c .before .before .before .slot-bytes .ensures)) (sym (c .before .all-zero .ensures) ∙ not-true _ (c .if4 .taken)) in
-    (f ∙ sym (l .inv .1 t e .0 ∙ slot-fails t (now (c .before .before .before .before .before .before .before .before .before .args .store)) 8 (l .i) (omega arith) s), λ k. absurd (false≢true (sym f ∙ k)))
+    let at-loop = c .before .before .before .before .before in
+    let start = at-loop .before .before .before .before in
+    let l = at-loop .loop in
+    let f = at-loop .before .before .unsound .ensures .0 in
+    λ t e. let s : slotSound (isNamed t (l .i)) (slotAt (now (start .args .store)) (l .i)) ≡ false = rw (
+      named-here t _ (l .i) e (omega arith) ∙ c .before .before .if1 .left,
+      ← (c .before .before .before .slot-bytes .ensures),
+    ) (sym (c .before .all-zero .ensures) ∙ not-true _ (c .if4 .taken)) in (
+      f ∙ sym (l .inv .1 t e .0 ∙ slot-fails t (now (start .args .store)) 8 (l .i) (omega arith) s),
+      λ k. absurd (false≢true (sym f ∙ k)),
+    )
 
 add-i : tie.Need-add-i Inv-loop μ-loop
 add-i c = omega arith
@@ -92,38 +104,42 @@ loop-less c = omega arith
 loop-again : tie.Need-loop-again Inv-loop μ-loop
 unfolding slotSound
 loop-again c =
+    let start = c .before .before .before .before .before .before .before in
     let l = c .before .before .before .loop in
-    let store = now (c .before .before .before .before .before .before .before .args .store) in
-    let asked = c .before .before .before .before .before .before .before .args .asked in (
+    let store = now (start .args .store) in
+    let asked = start .args .asked in (
       omega arith,
-      λ t e.
-          let n = named-here t _ (l .i) e (omega arith) in
-          ⊎-elim
-          (λ w.
-          let q = w .3 .ensures (w .2 .result .starts) (w .2 .ensures .0 ∙ ap layoutBody (w .1 .ensures)) in
-          let s : slotSound (isNamed t (l .i)) (slotAt store (l .i)) ≡ true = rw (n ∙ w .0 .taken, ← (c .before .slot-bytes .ensures)) (sym q ∙ not-false _ (w .4 .left)) in
-          let r = ap layoutBody (w .1 .ensures ∙ ap bodyIn (c .before .slot-bytes .ensures)) ∙ (read-here t store (l .i) (n ∙ w .0 .taken) ∙ ap (λ (v : ℕ). layoutNamed t store v (l .i + 1)) (w .6 .taken)) in (
+      λ t e. let n = named-here t _ (l .i) e (omega arith) in ⊎-elim
+          (λ w. let q = w .3 .ensures (w .2 .result .starts) (w .2 .ensures .0 ∙ ap layoutBody (w .1 .ensures)) in let
+          s : slotSound (isNamed t (l .i)) (slotAt store (l .i)) ≡ true = rw (
+            n ∙ w .0 .taken,
+            ← (c .before .slot-bytes .ensures),
+          ) (sym q ∙ not-false _ (w .4 .left)) in let r = ap layoutBody
+          (w .1 .ensures ∙ ap bodyIn (c .before .slot-bytes .ensures))
+          ∙ (read-here t store (l .i) (n ∙ w .0 .taken)
+          ∙ ap (λ (v : ℕ). layoutNamed t store v (l .i + 1)) (w .6 .taken)) in (
             l .inv .1 t e .0 ∙ slot-passed t store 8 (l .i) (omega arith) s,
             rw (w .7) (w .2 .ensures .0 ∙ r),
             rw (w .7) (w .2 .ensures .1 ∙ ap startsIn r),
           ))
-          (⊎-elim
-          (λ w.
-          let q = w .3 .ensures (w .2 .result .starts) (w .2 .ensures .0 ∙ ap layoutBody (w .1 .ensures)) in
-          let s : slotSound (isNamed t (l .i)) (slotAt store (l .i)) ≡ true = rw (n ∙ w .0 .taken, ← (c .before .slot-bytes .ensures)) (sym q ∙ not-false _ (w .4 .left)) in
-          let r = read-elsewhere t store (asked .0) (l .i) (w .6 .left) in (
+          (⊎-elim (λ w. let q = w .3 .ensures (w .2 .result .starts) (w .2 .ensures .0 ∙ ap layoutBody (w .1 .ensures))
+          in let s : slotSound (isNamed t (l .i)) (slotAt store (l .i)) ≡ true = rw (
+            n ∙ w .0 .taken,
+            ← (c .before .slot-bytes .ensures),
+          ) (sym q ∙ not-false _ (w .4 .left)) in let r = read-elsewhere t store (asked .0) (l .i) (w .6 .left) in (
             l .inv .1 t e .0 ∙ slot-passed t store 8 (l .i) (omega arith) s,
             rw (w .7) (l .inv .1 t e .1 ∙ r),
             rw (w .7) (l .inv .1 t e .2 ∙ ap startsIn r),
           ))
-          (λ w.
-          let s : slotSound (isNamed t (l .i)) (slotAt store (l .i)) ≡ true = rw (n ∙ w .0 .left, ← (c .before .slot-bytes .ensures)) (sym (w .1 .ensures) ∙ not-false _ (w .2 .left)) in
-          let r = read-unnamed t store (asked .0) (l .i) (n ∙ w .0 .left) in (
+          (λ w. let s : slotSound (isNamed t (l .i)) (slotAt store (l .i)) ≡ true = rw (
+            n ∙ w .0 .left,
+            ← (c .before .slot-bytes .ensures),
+          ) (sym (w .1 .ensures) ∙ not-false _ (w .2 .left)) in let r = read-unnamed t store (asked .0) (l .i)
+          (n ∙ w .0 .left) in (
             l .inv .1 t e .0 ∙ slot-passed t store 8 (l .i) (omega arith) s,
             rw (w .3) (l .inv .1 t e .1 ∙ r),
             rw (w .3) (l .inv .1 t e .2 ∙ ap startsIn r),
-          )))
-          (c .if1 .came),
+          ))) (c .if1 .came),
     )
 
 returns-3 : tie.Need-returns-3 Inv-loop μ-loop

@@ -19,7 +19,11 @@ same-length : tie.Need-same-length
 same-length c = search needs
 
 returns : tie.Need-returns
-returns c = c .before .before .put-zeros .ensures ∙ ap (λ (p : ℕ). stored (now (c .before .before .before .before .before .before .args .store)) p (replicate 4096 0)) (c .before .before .before .start .ensures) ∙ sym (cleared (now (c .before .before .before .before .before .before .args .store)) (c .before .before .before .before .before .before .args .i .0))
+returns c =
+    let start = c .before .before .before .before .before .before in
+    c .before .before .put-zeros .ensures
+    ∙ ap (λ (p : ℕ). stored (now (start .args .store)) p (replicate 4096 0))
+    (c .before .before .before .start .ensures) ∙ sym (cleared (now (start .args .store)) (start .args .i .0))
 
 pub clear-slot-spec : {M : Type 1} → statement M
 clear-slot-spec = tie.close (tie.spec start-requires put-zeros-requires same-length returns)

@@ -17,16 +17,18 @@ returns c = sym (too-long (now (c .before .before .before .before .args .store))
 
 returns-2 : tie.Need-returns-2
 returns-2 c =
-    let b = now (c .before .before .before .before .before .args .body) in
-    sym (no-slot (now (c .before .before .before .before .before .args .store)) (c .before .before .before .before .before .args .i .0) (holds b) (length-slot b (omega arith)) (omega arith))
+    let start = c .before .before .before .before .before in
+    let b = now (start .args .body) in
+    sym (no-slot (now (start .args .store)) (start .args .i .0) (holds b) (length-slot b (omega arith)) (omega arith))
 
 sub-if3 : tie.Need-sub-if3
 sub-if3 c = search needs
 
 returns-3 : tie.Need-returns-3
 returns-3 c =
-    let b = now (c .before .before .before .before .before .before .args .body) in
-    sym (no-slot (now (c .before .before .before .before .before .before .args .store)) (c .before .before .before .before .before .before .args .i .0) (holds b) (length-slot b (omega arith)) (omega arith))
+    let start = c .before .before .before .before .before .before in
+    let b = now (start .args .body) in
+    sym (no-slot (now (start .args .store)) (start .args .i .0) (holds b) (length-slot b (omega arith)) (omega arith))
 
 cast-put-le4 : tie.Need-cast-put-le4
 cast-put-le4 c = search needs
@@ -60,9 +62,18 @@ same-length c = search needs
 
 returns-4 : tie.Need-returns-4
 returns-4 c =
-    let a = c .before .before .before .before .before .before .before .before .before .before .before .before .before .before .before .before .before .before .before .before .before .before .args in
-    rw (c .before .before .put-zeros .ensures, c .before .before .before .before .before .before .put-bytes .ensures, c .before .before .before .before .before .before .before .before .before .before .put-le2 .ensures, c .before .before .before .before .before .before .before .before .before .before .before .before .before .before .put-le4 .ensures, c .before .before .before .before .before .before .before .before .before .before .before .before .before .before .before .before .before .before .before .start .ensures)
-    (laid (now (a .store)) (a .i .0) (now (a .body)) (omega arith) (omega arith))
+    let after-put-bytes = c .before .before .before .before .before .before in
+    let after-put-le2 = after-put-bytes .before .before .before .before in
+    let after-put-le4 = after-put-le2 .before .before .before .before in
+    let after-start = after-put-le4 .before .before .before .before .before in
+    let a = after-start .before .before .before .args in
+    rw (
+      c .before .before .put-zeros .ensures,
+      after-put-bytes .put-bytes .ensures,
+      after-put-le2 .put-le2 .ensures,
+      after-put-le4 .put-le4 .ensures,
+      after-start .start .ensures,
+    ) (laid (now (a .store)) (a .i .0) (now (a .body)) (omega arith) (omega arith))
 
 pub lay-body-spec : {M : Type 1} → statement M
 lay-body-spec =

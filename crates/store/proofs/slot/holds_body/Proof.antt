@@ -21,7 +21,12 @@ same-requires : tie.Need-same-requires
 same-requires c κs = search needs
 
 returns-2 : tie.Need-returns-2
-returns-2 c = rw (not-false (c .before .before .before .before .before .before .args .named) (c .before .before .before .if1 .left)) (c .same .ensures ∙ ap (sameBytes (now (c .before .before .before .before .before .before .args .body))) (c .before .slot-body .ensures ∙ ap bodyIn (c .before .before .slot-bytes .ensures)))
+returns-2 c =
+    let start = c .before .before .before .before .before .before in
+    rw (not-false (start .args .named) (c .before .before .before .if1 .left))
+    (c .same .ensures
+    ∙ ap (sameBytes (now (start .args .body)))
+    (c .before .slot-body .ensures ∙ ap bodyIn (c .before .before .slot-bytes .ensures)))
 
 pub holds-body-spec : {M : Type 1} → statement M
 holds-body-spec =

@@ -1,3 +1,4 @@
+-- `table::draft::draft_of` meets its contract. The loop's invariant: the draft holds the parts of the turns passed.
 use Prim.Native.Nat.{_+_, _-_, _≤_}
 use Rattle.base.proofs.ListLaws.{mapped-long}
 use Rattle.table.proofs.DraftLaws.{turn-written}
@@ -44,7 +45,9 @@ array-copy-out-s : tie.Need-array-copy-out-s Inv-loop μ-loop
 array-copy-out-s c = let q = c .turn-place .ensures .1 in omega arith
 
 turn-part-requires : tie.Need-turn-part-requires Inv-loop μ-loop
-turn-part-requires c κs = (c .before .before .before .before .before .before .pre, c .before .before .before .before .before .middle-turns .ensures .1)
+turn-part-requires c κs =
+    let after-middle-turns = c .before .before .before .before .before in
+    (after-middle-turns .before .pre, after-middle-turns .middle-turns .ensures .1)
 
 newest-requires : tie.Need-newest-requires Inv-loop μ-loop
 newest-requires c κs = search needs
@@ -56,7 +59,9 @@ element-copy-out-a : tie.Need-element-copy-out-a Inv-loop μ-loop
 element-copy-out-a c = let h = c .before .before .before .before .before .loop .inv .1 .small in let e = c .newest .ensures in omega arith
 
 place-for-requires : tie.Need-place-for-requires Inv-loop μ-loop
-place-for-requires c κs = c .before .before .before .before .before .before .loop .inv .1 .small
+place-for-requires c κs =
+    let at-loop = c .before .before .before .before .before .before in
+    at-loop .loop .inv .1 .small
 
 mul-t : tie.Need-mul-t Inv-loop μ-loop
 mul-t c = let h = c .before .place-for .ensures .there in omega arith
@@ -72,9 +77,19 @@ loop-less c = let q = c .before .before .before .before .before .before .before 
 
 loop-again : tie.Need-loop-again Inv-loop μ-loop
 loop-again c =
-    let a = c .before .before .before .before .before .before .before .before .before .before .before .args in
-    let k : length (a .t1) ≡ 32 = search (needs, mapped-long) in
-    (omega arith, turn-written (c .before .before .before .before .before .before .before .before .loop .r) (c .before .place-for .result) _ (c .before .before .before .newest .result) _ _ _ _ (c .before .before .before .newest .ensures) (c .before .place-for .ensures) (c .before .before .before .before .turn-part .ensures) (turns-next (a .c) (a .first) (a .last) (a .t1) (a .n) (c .before .before .before .before .before .before .before .before .before .before .middle-turns .result) (c .before .before .before .before .before .before .before .before .loop .i) _ _ k (c .before .before .before .before .before .before .before .before .before .before .before .pre) (c .before .before .before .before .before .before .before .before .before .before .middle-turns .ensures .1) (c .before .before .before .before .before .before .before .loop-test .taken) (c .before .before .before .before .before .before .turn-place .ensures .0)) (c .before .before .before .before .before .before .before .before .loop .inv .1))
+    let after-newest = c .before .before .before in
+    let at-loop = after-newest .before .before .before .before .before in
+    let start = at-loop .before .before .before in
+    let a = start .args in
+    let k : length (a .t1) ≡ 32 = search (needs, mapped-long) in (
+      omega arith,
+      turn-written (at-loop .loop .r) (c .before .place-for .result) _ (after-newest .newest .result) _ _ _ _
+          (after-newest .newest .ensures) (c .before .place-for .ensures) (after-newest .before .turn-part .ensures)
+          (turns-next (a .c) (a .first) (a .last) (a .t1) (a .n) (at-loop .before .before .middle-turns .result)
+          (at-loop .loop .i) _ _ k (start .pre) (at-loop .before .before .middle-turns .ensures .1)
+          (after-newest .before .before .before .before .loop-test .taken)
+          (after-newest .before .before .before .turn-place .ensures .0)) (at-loop .loop .inv .1),
+    )
 
 returns : tie.Need-returns Inv-loop μ-loop
 returns c =

@@ -1,3 +1,4 @@
+-- `table::draft::empty_draft` meets its contract: it is not full, and has the places and number of no segments.
 use Rattle.base.specs.Lists.{padded}
 use Rattle.table.proofs.DraftLaws.{never-both}
 use mathlib.Core.Path.{refl}

@@ -1,4 +1,4 @@
--- `table::edit::edit_list` meets its contract.
+-- `table::edit::edit_list` meets its contract: the list is not acted on, has no room, or is what the draft holds.
 use Rattle.base.proofs.ListLaws.{mapped-long, take-capped}
 use Rattle.table.proofs.DraftLaws.{edit-fits, edit-over}
 use borrow.Author.Needs.{needs}
@@ -30,10 +30,13 @@ returns-2 c =
 
 returns-3 : tie.Need-returns-3
 returns-3 c =
-    let a = c .before .before .before .before .before .before .before .args in
+    let after-if1 = c .before .before .before .before .before in
+    let a = after-if1 .before .before .args in
     let k : length (a .g .items) ≡ 32 = search (needs, mapped-long) in
-    rw (sym (c .before .before .before .before .before .before .acts-on .ensures) ∙ not-false _ (c .before .before .before .before .before .if1 .left))
-    (edit-fits (a .c) (a .s .first) (a .s .last) (a .g) _ (take-capped (a .g .items) 32 (a .g .count) _ k (c .before .before .before .used-places .ensures)) (c .before .before .draft-of .ensures) (c .before .if2 .left))
+    rw (sym (after-if1 .before .acts-on .ensures) ∙ not-false _ (after-if1 .if1 .left))
+    (edit-fits (a .c) (a .s .first) (a .s .last) (a .g) _
+    (take-capped (a .g .items) 32 (a .g .count) _ k (c .before .before .before .used-places .ensures))
+    (c .before .before .draft-of .ensures) (c .before .if2 .left))
 
 pub edit-list-spec : {M : Type 1} → statement M
 edit-list-spec =

@@ -1,4 +1,4 @@
--- `table::part::changed` meets its contract.
+-- `table::part::changed` meets its contract: one way out for each change.
 use borrow.Author.Needs.{needs}
 use Rattle.table.proofs.part.changed.Statement.{statement}
 use Rattle.table.proofs.part.changed.Tie as tie

@@ -1,3 +1,4 @@
+-- `table::part::part_after` meets its contract: a part where the segment ends after the range, else none.
 use Rattle.table.proofs.PartLaws.{after-kept, after-none}
 use borrow.Author.Needs.{needs}
 use Rattle.table.proofs.part.part_after.Statement.{statement}

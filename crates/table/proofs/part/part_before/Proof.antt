@@ -1,3 +1,4 @@
+-- `table::part::part_before` meets its contract: a part where the segment starts before the range, else none.
 use Rattle.table.proofs.PartLaws.{before-kept, before-none}
 use borrow.Author.Needs.{needs}
 use Rattle.table.proofs.part.part_before.Statement.{statement}

@@ -1,3 +1,4 @@
+-- `table::part::part_inside` meets its contract: the changed part where segment and range meet, else none.
 use mathlib.Core.Path.{_∙_}
 use Rattle.table.proofs.PartLaws.{inside-kept, inside-past, inside-under}
 use borrow.Author.Needs.{needs}
@@ -18,9 +19,11 @@ keep-requires c κs = search needs
 
 returns : tie.Need-returns
 returns c =
-    let a = c .before .before .before .before .before .before .before .before .args in
+    let after-if2 = c .before .before .before .before in
+    let a = after-if2 .before .before .before .before .args in
     c .keep .ensures
-    ∙ inside-kept (a .s) (a .first) (a .last) (a .c) _ (c .before .before .before .before .before .before .if1 .taken) (c .before .before .before .before .if2 .taken) (c .before .before .before .larger .ensures) (c .before .before .smaller .ensures) (c .before .changed .ensures)
+    ∙ inside-kept (a .s) (a .first) (a .last) (a .c) _ (after-if2 .before .before .if1 .taken) (after-if2 .if2 .taken)
+    (c .before .before .before .larger .ensures) (c .before .before .smaller .ensures) (c .before .changed .ensures)
 
 returns-2 : tie.Need-returns-2
 returns-2 c = inside-under (c .before .before .before .before .args .s) (c .before .before .before .before .args .first) (c .before .before .before .before .args .last) (c .before .before .before .before .args .c) (c .before .before .if1 .taken) (c .if2 .left)

@@ -1,3 +1,4 @@
+-- `table::part::recalled` meets its contract: one way out for each case of the right.
 use borrow.Author.Needs.{needs}
 use Rattle.table.proofs.part.recalled.Statement.{statement}
 use Rattle.table.proofs.part.recalled.Tie as tie

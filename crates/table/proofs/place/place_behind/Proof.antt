@@ -1,3 +1,4 @@
+-- `table::place::place_behind` meets its contract: the segment joins the last, follows it, or finds no place.
 use Rattle.table.proofs.DraftLaws.{appends, fills, joins}
 use borrow.Author.Needs.{needs}
 use mathlib.Core.Path.{sym, _∙_}

@@ -1,3 +1,4 @@
+-- `table::place::place_for` meets its contract: no part, a full draft and an empty one, then `place_behind`.
 use Rattle.table.proofs.DraftLaws.{full-stays, goes-nowhere, starts}
 use borrow.Author.Needs.{needs}
 use Rattle.table.proofs.place.place_for.Statement.{statement}

@@ -1,3 +1,4 @@
+-- `table::place::touches` meets its contract: the rights decide where one follows the other, else false.
 use Rattle.table.proofs.PushLists.{touching-far, touching-next, touching-past}
 use borrow.Author.Needs.{needs}
 use Rattle.table.proofs.place.touches.Statement.{statement}
@@ -10,10 +11,14 @@ same-right-requires : tie.Need-same-right-requires
 same-right-requires c κs = search needs
 
 returns : tie.Need-returns
-returns c = touching-next (c .before .before .before .before .before .before .before .args .a) (c .before .before .before .before .before .before .before .args .s) _ (c .before .if2 .taken) (c .same-right .ensures)
+returns c =
+    let start = c .before .before .before .before .before .before .before in
+    touching-next (start .args .a) (start .args .s) _ (c .before .if2 .taken) (c .same-right .ensures)
 
 returns-2 : tie.Need-returns-2
-returns-2 c = touching-far (c .before .before .before .before .before .before .args .a) (c .before .before .before .before .before .before .args .s) (c .if2 .left)
+returns-2 c =
+    let start = c .before .before .before .before .before .before in
+    touching-far (start .args .a) (start .args .s) (c .if2 .left)
 
 returns-3 : tie.Need-returns-3
 returns-3 c = touching-past (c .before .before .before .args .a) (c .before .before .before .args .s) (c .if1 .left)

@@ -1,3 +1,4 @@
+-- `table::turn::part_middle` meets its contract: a grant is the whole range, a clear nothing, a recall `part_inside`.
 use Rattle.table.proofs.ChangeLaws.{clear-drops}
 use borrow.Author.Needs.{needs}
 use mathlib.Core.Path.{sym}

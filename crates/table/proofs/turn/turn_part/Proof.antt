@@ -1,3 +1,4 @@
+-- `table::turn::turn_part` meets its contract: turns before, in and after the range, each by its callee.
 use Rattle.table.proofs.TurnLaws.{part-between, part-early, part-late}
 use borrow.Author.Needs.{needs}
 use Rattle.table.proofs.turn.turn_part.Statement.{statement}

@@ -1,3 +1,4 @@
+-- `table::turn::turn_place` meets its contract: turns before, in and after the range, then arithmetic.
 use Rattle.table.proofs.TurnLaws.{place-between, place-early, place-late}
 use borrow.Author.Needs.{needs}
 use native.Mathlib.Omega.{arith}

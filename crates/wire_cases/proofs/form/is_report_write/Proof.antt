@@ -28,9 +28,16 @@ le4-requires-3 c κs = search needs
 returns-2 : tie.Need-returns-2
 unfolding isReportWrite listEnds
 returns-2 c =
-    let s = now (c .before .before .before .before .before .before .before .args .payload) in
-    let place : c .before .before .list-at .result ≡ listAt (leAt 4 s 4) = c .before .before .list-at .ensures .0 ∙ ap listAt (c .before .before .before .le42 .ensures) in
-    rw (le-leb (leAt 4 s 0) 4096 (omega (arith, c .before .before .before .before .before .le4 .ensures)), sym place, sym (c .before .le43 .ensures), lt-leb _ 128 (c .if2 .taken))
+    let after-le4 = c .before .before .before .before .before in
+    let s = now (after-le4 .before .before .args .payload) in
+    let place : c .before .before .list-at .result ≡ listAt (leAt 4 s 4) =
+    c .before .before .list-at .ensures .0 ∙ ap listAt (c .before .before .before .le42 .ensures) in
+    rw (
+      le-leb (leAt 4 s 0) 4096 (omega (arith, after-le4 .le4 .ensures)),
+      sym place,
+      sym (c .before .le43 .ensures),
+      lt-leb _ 128 (c .if2 .taken),
+    )
 
 add-result : tie.Need-add-result
 add-result c = search needs
@@ -47,9 +54,16 @@ add-result-2 c = search needs
 returns-3 : tie.Need-returns-3
 unfolding isReportWrite listEnds
 returns-3 c =
-    let s = now (c .before .before .before .before .before .before .before .args .payload) in
-    let place : c .before .before .list-at .result ≡ listAt (leAt 4 s 4) = c .before .before .list-at .ensures .0 ∙ ap listAt (c .before .before .before .le42 .ensures) in
-    rw (le-leb (leAt 4 s 0) 4096 (omega (arith, c .before .before .before .before .before .le4 .ensures)), sym place, sym (c .before .le43 .ensures), le-leb _ 128 (c .if2 .left))
+    let after-le4 = c .before .before .before .before .before in
+    let s = now (after-le4 .before .before .args .payload) in
+    let place : c .before .before .list-at .result ≡ listAt (leAt 4 s 4) =
+    c .before .before .list-at .ensures .0 ∙ ap listAt (c .before .before .before .le42 .ensures) in
+    rw (
+      le-leb (leAt 4 s 0) 4096 (omega (arith, after-le4 .le4 .ensures)),
+      sym place,
+      sym (c .before .le43 .ensures),
+      le-leb _ 128 (c .if2 .left),
+    )
 
 pub is-report-write-spec : {M : Type 1} → statement M
 is-report-write-spec =

@@ -31,7 +31,16 @@ returns c = rw (c .before .before .b .given .1, c .number .ensures)
 
 returns-2 : tie.Need-returns-2
 unfolding bindResult
-returns-2 c = rw (c .before .before .before .before .before .before .before .before .before .b2 .given .1, c .before .before .before .version-record .ensures, c .before .before .part-record .ensures, c .before .part-record2 .ensures, c .part-record3 .ensures)
+returns-2 c =
+    let after-part-record = c .before .before in
+    let after-b2 = after-part-record .before .before .before .before .before .before .before in
+    rw (
+      after-b2 .b2 .given .1,
+      after-part-record .before .version-record .ensures,
+      after-part-record .part-record .ensures,
+      c .before .part-record2 .ensures,
+      c .part-record3 .ensures,
+    )
 
 pub bind-result-spec : {M : Type 1} → statement M
 bind-result-spec =

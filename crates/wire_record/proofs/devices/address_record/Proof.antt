@@ -1,3 +1,4 @@
+-- `wire_record::devices::address_record` meets its contract: class and text, each from its callee.
 use borrow.Author.Needs.{needs}
 use Rattle.wire_record.proofs.devices.address_record.Statement.{statement}
 use Rattle.wire_record.proofs.devices.address_record.Tie as tie

@@ -25,7 +25,9 @@ returns c = rw (c .before .before .a .given .1, c .fault-number .ensures)
 
 returns-2 : tie.Need-returns-2
 unfolding deviceResult
-returns-2 c = rw (c .before .before .before .before .before .a2 .given .1, c .before .address-records .ensures, c .version-records .ensures)
+returns-2 c =
+    let after-a2 = c .before .before .before .before .before in
+    rw (after-a2 .a2 .given .1, c .before .address-records .ensures, c .version-records .ensures)
 
 pub device-result-spec : {M : Type 1} → statement M
 device-result-spec =

@@ -1,3 +1,4 @@
+-- `wire_record::devices::version_record` meets its contract: the fields as they are, and `tight` from its callee.
 use borrow.Author.Needs.{needs}
 use Rattle.wire_record.proofs.devices.version_record.Statement.{statement}
 use Rattle.wire_record.proofs.devices.version_record.Tie as tie

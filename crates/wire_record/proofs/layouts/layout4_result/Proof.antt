@@ -28,7 +28,14 @@ returns c = rw (c .before .before .a .given .1, c .fault-number .ensures)
 
 returns-2 : tie.Need-returns-2
 unfolding layout4Result
-returns-2 c = rw (c .before .before .before .before .before .before .a2 .given .1, c .iomode-number .ensures, c .before .before .summary-record .ensures, c .before .before .before .part-record .ensures)
+returns-2 c =
+    let after-a2 = c .before .before .before .before .before .before in
+    rw (
+      after-a2 .a2 .given .1,
+      c .iomode-number .ensures,
+      c .before .before .summary-record .ensures,
+      c .before .before .before .part-record .ensures,
+    )
 
 pub layout4-result-spec : {M : Type 1} → statement M
 layout4-result-spec =
