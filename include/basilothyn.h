@@ -1,10 +1,10 @@
 /*
- * Basilothyn: the pNFS client core, for C. docs/DRIVER.md says how a client uses it.
+ * Basilothyn: the pNFS client core, for C. docs/DRIVER.md explains how a client uses it.
  *
  * A file has one table (which bytes are held, in which iomode, under which layout body) and one store (the bodies).
  * The table goes in and comes out by value; the store is borrowed for the time of a call. Nothing is kept between
- * calls, nothing is allocated, and no call fails in another way than by a refusal. A call that is refused gives back
- * the table that it was handed and changes no byte that it borrowed.
+ * calls, nothing is allocated, and no call fails in another way than by a refusal. A call that is refused returns the
+ * table that it was handed and changes no byte that it borrowed.
  *
  * After each event the caller keeps the table that came back. Nothing notices an old one: a lookup that is handed the
  * table from before a recall answers as if there had been no recall, and the write goes where it no longer may.
@@ -71,7 +71,7 @@ enum { BASILOTHYN_READ = 1, BASILOTHYN_RW = 2, BASILOTHYN_ANY = 3 };
  * any other, offset + length is at most 2^64 - 1. An I/O request, an offset and a length above 0, has no special
  * length: offset + length is at most 2^64 - 1, always. All else is refused with 5. */
 
-/* What a call answers: 0, or why it refuses. */
+/* The field refusal of a result: 0, or why the call refuses. */
 enum basilothyn_refusal {
     BASILOTHYN_ACCEPTED = 0,               /* accepted */
     BASILOTHYN_BYTES_RUN_OUT = 1,          /* the bytes run out before an item is complete */
@@ -101,7 +101,7 @@ enum basilothyn_refusal {
     BASILOTHYN_ERROR_INVALID = 27          /* an error's status or operation is not allowed */
 };
 
-/* What a refusal says, in the words above. */
+/* A refusal in the words above. */
 static inline const char *basilothyn_refusal_text(uint32_t refusal)
 {
     static const char *const texts[] = {
@@ -152,8 +152,8 @@ struct basilothyn_segment {
     uint32_t slot;
 };
 
-/* All 32 places of each iomode; the first read_count, rw_count of them are in use, the others are zeros. Treat it as
- * opaque and hand back what the last call gave: numbers that are no table are refused with 20. */
+/* All 32 entries of each iomode; the first read_count, rw_count of them are in use, the others are zeros. Treat it as
+ * opaque and hand back what the last call returned: numbers that are no table are refused with 20. */
 struct basilothyn_table {
     struct basilothyn_segment read[BASILOTHYN_SEGMENTS];
     struct basilothyn_segment rw[BASILOTHYN_SEGMENTS];
@@ -161,12 +161,12 @@ struct basilothyn_table {
     uint64_t rw_count;
 };
 
-/* The store: slot n starts at byte 4,096 * n. There stand the length of a layout body (4 bytes, little-endian), 4 (2
+/* The store: slot n starts at byte 4,096 * n. It holds the length of a layout body (4 bytes, little-endian), 4 (2
  * bytes, little-endian), the body, and zeros to the slot's end. A slot that no segment names is all zeros. The bytes
  * may be read between calls, but only calls may change them. */
 
-/* The layout body in a slot, until an event clears the slot; in a clear slot its length is 0. NULL and 0 where
- * there is no such slot, or where no body can be as long as the slot says. */
+/* The layout body in a slot, until an event clears the slot; in a clear slot its length is 0. NULL and 0 where there
+ * is no such slot, or where the slot's length is above that of any body. */
 static inline const uint8_t *basilothyn_body(const uint8_t *store, uint32_t slot, size_t *length)
 {
     const uint8_t *s;
@@ -181,20 +181,20 @@ static inline const uint8_t *basilothyn_body(const uint8_t *store, uint32_t slot
     return s + 6;
 }
 
-/* What an event comes to: the refusal, and the table from now on (after a refusal the one handed over). Keep it. */
+/* The result of an event: the refusal, and the table from now on (after a refusal the one handed over). Keep it. */
 struct basilothyn_event_result {
     uint32_t refusal;
     struct basilothyn_table table;
 };
 
-/* The table of a file of which nothing is held. Its store is 32,768 zero bytes. */
+/* The table of a file with no byte held. Its store is 32,768 zero bytes. */
 struct basilothyn_table basilothyn_empty_table(void);
 
 /* A grant: a layout4 as in the reply to LAYOUTGET. Its range becomes granted in its iomode under its body, which is
- * laid into a slot of the store unless it is there already. Refusals in order: 20; those of the layout4 (1 to 6, 8 to
- * 11); 21, 22, 24, 23. A layout that is refused must not be used: let the I/O in its range end, send LAYOUTRETURN for
- * it, and then call basilothyn_return, since that took back what was held there before, too. On 23 and 24 return
- * something else as well before the next LAYOUTGET. */
+ * stored in a slot unless it is there already. Refusals in order: 20; those of the layout4 (1 to 6, 8 to 11); 21, 22,
+ * 24, 23. A layout that is refused must not be used: let the I/O in its range end, send LAYOUTRETURN for it, and then
+ * call basilothyn_return, since that took back what was held there before, too. On 23 and 24 return something else as
+ * well before the next LAYOUTGET. */
 struct basilothyn_event_result basilothyn_grant(struct basilothyn_table table, uint8_t *store, size_t store_length,
                                                 const uint8_t *bytes, size_t length);
 
@@ -231,10 +231,10 @@ struct basilothyn_locate_result {
     uint32_t mirrors;
 };
 
-/* Where a read goes: to one mirror, the one whose first data server has the highest efficiency, the lowest number on a
- * tie. It is served by READ, or where that is not granted by RW under a body without flag 4. Where that data server is
- * down, the one with the same stripe number in any other mirror of the body may serve. Refusals in order: 20, 5, 17.
- * Ask again behind the piece for the rest. */
+/* Where a read goes: to one mirror, the one whose first data server has the highest efficiency, the lowest number on
+ * a tie. It is served by READ, or where that is not granted by RW under a body without flag 4. Where that data server
+ * is down, the one with the same stripe number in any other mirror of the body may serve. Refusals in order: 20, 5,
+ * 17. Ask again after the piece for the rest. */
 struct basilothyn_locate_result basilothyn_locate_read(struct basilothyn_table table, const uint8_t *store,
                                                        size_t store_length, uint64_t offset, uint64_t length);
 
@@ -245,9 +245,9 @@ struct basilothyn_locate_result basilothyn_locate_write(struct basilothyn_table 
 
 /* ---- the bodies of the wire
  *
- * A place is counted from the first byte of the body handed over. After a refusal all but the refusal is 0. */
+ * An offset is counted from the first byte of the body handed over. After a refusal all but the refusal is 0. */
 
-/* Where bytes stand in a body, and how many they are. */
+/* Some bytes of a body: the offset of the first, and how many they are. */
 struct basilothyn_part {
     size_t start;
     size_t length;
@@ -272,8 +272,8 @@ struct basilothyn_summary {
     uint32_t hint;
 };
 
-/* The data server of a mirror and a stripe starts at starts[mirror * BASILOTHYN_SERVERS + stripe]: there stand its
- * device id (16 bytes), efficiency (4), stateid (16). Unused places of starts are 0. */
+/* The data server of a mirror and a stripe starts at starts[mirror * BASILOTHYN_SERVERS + stripe]: its device id (16
+ * bytes), efficiency (4) and stateid (16) are there. Unused entries of starts are 0. */
 struct basilothyn_layout_result {
     uint32_t refusal;
     struct basilothyn_summary summary;
@@ -286,8 +286,8 @@ struct basilothyn_layout_result {
  * Refusals: 1, 2, 6, 8, 9, 10, 11. */
 struct basilothyn_layout_result basilothyn_read_layout(const uint8_t *body, size_t length);
 
-/* offset and length as on the wire, the last byte of the range, where the body stands; starts count from the body's
- * first byte. */
+/* offset and length as on the wire, the last byte of the range, where the body is; starts count from the body's first
+ * byte. */
 struct basilothyn_layout4_result {
     uint32_t refusal;
     uint32_t iomode;
@@ -313,7 +313,7 @@ enum {
     BASILOTHYN_RDMA6 = 6
 };
 
-/* An address: the class of its netid, and where its text stands. */
+/* An address: the class of its netid, and where its text is. */
 struct basilothyn_address {
     uint32_t netid_class;
     struct basilothyn_part text;
@@ -329,7 +329,7 @@ struct basilothyn_version {
     uint32_t tight;
 };
 
-/* The first address_count, version_count places are in use, the others are 0. */
+/* The first address_count, version_count entries are in use, the others are 0. */
 struct basilothyn_device_result {
     uint32_t refusal;
     uint32_t address_count;
@@ -345,7 +345,7 @@ struct basilothyn_device_result {
 struct basilothyn_device_result basilothyn_read_device(const uint8_t *body, size_t length);
 
 /* How to speak to a data server: the version entry and its number, from 0; where in the layout body its filehandle
- * stands, and, if the entry is tight, the stateid (16 bytes), else user and group. What is not used is 0. */
+ * is, and, if the entry is tight, the stateid (16 bytes), else user and group. What is not used is 0. */
 struct basilothyn_bind_result {
     uint32_t refusal;
     uint32_t entry;
@@ -372,7 +372,7 @@ struct basilothyn_bind_result basilothyn_bind(const uint8_t *layout, size_t layo
 /* The operations that an error may be of, by their numbers in NFS. */
 enum { BASILOTHYN_OP_COMMIT = 5, BASILOTHYN_OP_READ = 25, BASILOTHYN_OP_WRITE = 38 };
 
-/* What stands before the errors of a report, and how many errors follow. */
+/* What comes before the errors of a report, and how many errors follow. */
 struct basilothyn_report_head {
     uint64_t offset;
     uint64_t length;
@@ -380,7 +380,7 @@ struct basilothyn_report_head {
     uint32_t errors;
 };
 
-/* The first error of report k stands in the body at errors_at[k]; heads[k].errors of them follow each other, 24 bytes
+/* The first error of report k is in the body at errors_at[k]; heads[k].errors of them follow each other, 24 bytes
  * each: device id (16), status (4), operation (4). */
 struct basilothyn_reports_result {
     uint32_t refusal;
@@ -392,7 +392,7 @@ struct basilothyn_reports_result {
 /* Reads the body of an ff_layoutreturn4: 0 to 8 reports, and no statistics (else 8). Refusals: 1, 2, 5, 8, 27. */
 struct basilothyn_reports_result basilothyn_read_reports(const uint8_t *body, size_t length);
 
-/* One error: the place of its device id (16 bytes), its status and its operation. */
+/* One error: the offset of its device id (16 bytes), its status and its operation. */
 struct basilothyn_error_result {
     uint32_t refusal;
     size_t device;
@@ -400,9 +400,9 @@ struct basilothyn_error_result {
     uint32_t operation;
 };
 
-/* Reads the error that stands at a place of a body, whatever stands before and behind it; any place may be asked for.
- * Of a body that basilothyn_read_reports accepted, error k of report i stands at errors_at[i] + 24 * k. Refusals in
- * order: 1, 27 (the status is 0, or the operation is not COMMIT, READ or WRITE). */
+/* Reads the error at an offset in a body, whatever is before and after it; any offset may be asked for. In a body
+ * that basilothyn_read_reports accepted, error k of report i is at errors_at[i] + 24 * k. Refusals in order: 1, 27
+ * (the status is 0, or the operation is not COMMIT, READ or WRITE). */
 struct basilothyn_error_result basilothyn_read_error(const uint8_t *body, size_t length, size_t at);
 
 struct basilothyn_report_heads {
@@ -422,10 +422,11 @@ struct basilothyn_write_result {
     uint64_t length;
 };
 
-/* Writes the body of an ff_layoutreturn4: the first count heads, and one list of errors, error_count long: first those
- * of heads[0], as many as it says, then those of heads[1], and so on. A report has 1 to 16 errors; an output of
- * BASILOTHYN_LONGEST_REPORT bytes is always enough. Bytes of the output behind the body stay. Refusals in order: 8
- * (more than 8 reports, a list of another length than the heads say), then report by report 5, 8, 27, then 26. */
+/* Writes the body of an ff_layoutreturn4: the first count heads, and one list of errors, error_count long: first
+ * those of heads[0], heads[0].errors of them, then those of heads[1], and so on. A report has 1 to 16 errors; an
+ * output of BASILOTHYN_LONGEST_REPORT bytes is always enough. Bytes of the output after the body stay as they are.
+ * Refusals in order: 8 (more than 8 reports, a list whose length is not the sum of the heads' errors), then report by
+ * report 5, 8, 27, then 26. */
 struct basilothyn_write_result basilothyn_write_report(uint32_t count, struct basilothyn_report_heads heads,
                                                        const struct basilothyn_error *errors, size_t error_count,
                                                        uint8_t *out, size_t out_length);
