@@ -1,6 +1,6 @@
 //! The bodies that are read.
 
-use independent::generate::bodies::{LayoutPlan, ServerPlan};
+use independent::samples::bodies::{LayoutPlan, ServerPlan};
 
 /// The body of a captured layout4 starts behind 28 bytes.
 const BODY: usize = 28;

@@ -5,7 +5,7 @@ use crate::forms::{core_event, core_form, tuned_event, tuned_form};
 use crate::tuned;
 use basilothyn::raw::{self, TableRecord};
 use independent::event::Event;
-use independent::generate::bodies::Layout4Head;
+use independent::samples::bodies::Layout4Head;
 use independent::state::State;
 use independent::table::Table;
 

@@ -28,12 +28,12 @@ const FORMS: [Form; 4] = [
     }),
 ];
 
-/// The row, and a line about the forms of the Rust. A store that is spoilt in its last byte is refused after its last block of 256 bytes, one that is spoilt
+/// The row, and a line about the forms of the Rust. A store that is corrupted in its last byte is refused after its last block of 256 bytes, one that is corrupted
 /// in its first byte after its first, all else being the same: the difference is the scan of all blocks but one.
 pub fn row() -> (Row, String) {
     let zeros = vec![0; raw::STORE_LENGTH];
-    let spoilt_at = |place: usize| zeros.iter().enumerate().map(|(at, _)| u8::from(at == place)).collect::<Vec<_>>();
-    let (early, late) = (spoilt_at(0), spoilt_at(raw::STORE_LENGTH - 1));
+    let corrupted_at = |place: usize| zeros.iter().enumerate().map(|(at, _)| u8::from(at == place)).collect::<Vec<_>>();
+    let (early, late) = (corrupted_at(0), corrupted_at(raw::STORE_LENGTH - 1));
     let table = raw::empty_table();
     let locate = |store: &[u8]| raw::locate_write(*black_box(&table), store, 0, 1).refusal;
     let (scanned, short) = (&zeros[BLOCK..], &zeros[1..]);

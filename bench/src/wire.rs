@@ -6,9 +6,9 @@ use crate::{rpcgen, tuned};
 use basilothyn::raw::{self, ErrorRecord, ReportHeads};
 use independent::binding::{bind, BindRequest};
 use independent::device::read_device_body;
-use independent::generate::bodies::{encode_reports, ReportPlan};
 use independent::layout::read_layout_body;
 use independent::report::{read_reports, write_reports, DeviceError, ReportHead};
+use independent::samples::bodies::{encode_reports, ReportPlan};
 use std::hint::black_box;
 
 /// The lengths and rows of the three layout bodies.

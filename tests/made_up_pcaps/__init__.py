@@ -1,1 +1,1 @@
-"""What tests/bodies makes its captures of: pcap files, RPC records, and a sample of each operation."""
+"""What tests/capture_bodies makes its captures of: pcap files, RPC records, and a sample of each operation."""

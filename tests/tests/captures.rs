@@ -3,8 +3,8 @@
 
 mod support;
 
+use case_files::generate::captured::{captures_folder, read_captures, CaptureKind, FOLDERS};
 use independent::device::{read_device_body, NetidClass};
-use independent::generate::captured::{captures_folder, read_captures, CaptureKind, FOLDERS};
 use independent::layout::{read_server_at, Server};
 use independent::layout4::{read_layout4, BODY_IN_LAYOUT4};
 use independent::refusal::Refusal;

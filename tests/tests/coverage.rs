@@ -1,8 +1,8 @@
 //! What the case files reach: every refusal number of this part often enough,
 //! and every kind of case both accepted and refused.
 
+use case_files::generate::{mixed::random_file, stored::stored_file};
 use independent::answers::answer_file;
-use independent::generate::{mixed::random_file, stored::stored_file};
 use std::collections::{BTreeMap, BTreeSet};
 
 /// The numbers of 01's table that belong to the wire part.

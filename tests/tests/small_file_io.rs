@@ -1,19 +1,19 @@
-//! Reads and writes in a small file, byte by byte: rights come from the ledger,
+//! Reads and writes in a small file, byte by byte: rights come from the model,
 //! and stripes are counted instead of computed.
 
 #[path = "support/side_by_side.rs"]
 mod side_by_side;
 
 use independent::event::Event;
-use independent::generate::bodies::LayoutPlan;
-use independent::generate::events::{grant, layout_return, recall};
-use independent::generate::random::Random;
-use independent::generate::striped_bodies::with_efficiencies;
 use independent::io_request::{Direction, IoRequest};
 use independent::iomode::Iomode;
-use independent::ledger_slots::BodyRight;
 use independent::locate::Location;
+use independent::model_slots::BodyRight;
 use independent::range::LAST_BYTE;
+use independent::samples::bodies::with_efficiencies;
+use independent::samples::bodies::LayoutPlan;
+use independent::samples::events::{grant, layout_return, recall};
+use independent::samples::random::Random;
 use side_by_side::SideBySide;
 use std::collections::BTreeMap;
 
@@ -72,13 +72,13 @@ fn chosen_mirrors(number: usize, direction: Direction) -> u32 {
 
 /// The number of the layout that a byte is granted under.
 fn granted_layout(both: &SideBySide, iomode: Iomode, byte: u64) -> Option<usize> {
-    match both.ledger.right_at(iomode, byte) {
+    match both.model.right_at(iomode, byte) {
         BodyRight::Granted(body) => body.last().map(|&hint| usize::from(hint)),
         _ => None,
     }
 }
 
-/// The answer by the ledger, byte after byte; nothing stands for 17.
+/// The answer by the model, byte after byte; nothing stands for 17.
 fn expected(both: &SideBySide, request: &IoRequest) -> Option<Location> {
     let IoRequest { direction, offset, length } = *request;
     let (iomode, number) = Iomode::BOTH.into_iter().find_map(|iomode| {
@@ -90,12 +90,12 @@ fn expected(both: &SideBySide, request: &IoRequest) -> Option<Location> {
         };
         serves.then_some((iomode, number))
     })?;
-    let right = both.ledger.right_at(iomode, offset);
+    let right = both.model.right_at(iomode, offset);
     let bytes = counted(number);
     let (unit_number, stripe) = bytes[offset as usize];
-    let belongs = |byte: &u64| bytes[*byte as usize].0 == unit_number && both.ledger.right_at(iomode, *byte) == right;
+    let belongs = |byte: &u64| bytes[*byte as usize].0 == unit_number && both.model.right_at(iomode, *byte) == right;
     let length = (offset..offset + length).take_while(belongs).count() as u64;
-    let slot = both.ledger.slots().number_of(right.body()?)?;
+    let slot = both.model.slots().number_of(right.body()?)?;
     let mirrors = chosen_mirrors(number, direction);
     Some(Location { iomode, slot, stripe, offset, length, mirrors })
 }
@@ -128,7 +128,7 @@ fn ask_all(both: &SideBySide, answers: &mut BTreeMap<(&'static str, u32), usize>
 }
 
 #[test]
-fn requests_by_the_ledger() {
+fn requests_by_the_model() {
     let mut answers = BTreeMap::new();
     for seed in 0..LISTS {
         let mut random = Random::new(seed);

@@ -1,15 +1,15 @@
-//! Events in a file of few distinct bytes: the ledger with one cell a byte
-//! against the table and the ledger with break points.
+//! Events in a file of few distinct bytes: the model with one cell a byte
+//! against the table and the model with break points.
 
 #[path = "support/side_by_side.rs"]
 mod side_by_side;
 
-use independent::cell_ledger::CellLedger;
+use independent::cell_model::CellModel;
 use independent::event::Event;
-use independent::generate::events::{grant, layout_return, recall, small_body};
-use independent::generate::random::Random;
 use independent::iomode::{Iomode, IOMODE_ANY};
 use independent::range::LAST_BYTE;
+use independent::samples::events::{grant, layout_return, recall, small_body};
+use independent::samples::random::Random;
 use side_by_side::SideBySide;
 use std::collections::BTreeMap;
 
@@ -74,10 +74,10 @@ impl Universe {
     }
 }
 
-fn compare(both: &SideBySide, cells: &CellLedger) {
+fn compare(both: &SideBySide, cells: &CellModel) {
     for iomode in Iomode::BOTH {
         assert_eq!(cells.segments(iomode.number()), both.state.table.segments(iomode));
-        assert_eq!(cells.segments(iomode.number()), both.ledger.segments(iomode));
+        assert_eq!(cells.segments(iomode.number()), both.model.segments(iomode));
     }
     assert!(cells.slots().laid_out() == both.state.store);
 }
@@ -90,7 +90,7 @@ fn run_list(seed: u64, answers: &mut BTreeMap<u8, usize>) -> usize {
     let bodies = random.pick(&[1, 2, 4, 9, 12]);
     let grants_in_ten = random.pick(&[4, 6, 8]);
     let mut both = SideBySide::default();
-    let mut cells = CellLedger::with_edges(universe.edge);
+    let mut cells = CellModel::with_edges(universe.edge);
     let mut full_lists = 0;
     for _ in 0..EVENTS_A_LIST {
         let event = universe.event(&mut random, bodies, grants_in_ten);
@@ -105,7 +105,7 @@ fn run_list(seed: u64, answers: &mut BTreeMap<u8, usize>) -> usize {
 }
 
 #[test]
-fn cells_agree_with_table_and_ledger() {
+fn cells_agree_with_table_and_model() {
     let mut answers = BTreeMap::new();
     let full_lists: usize = (0..LISTS).map(|seed| run_list(seed, &mut answers)).sum();
     for number in [0, 3, 21, 22, 23, 24, 25] {
@@ -129,14 +129,14 @@ fn all_short_lists() {
             events.push(recall(IOMODE_ANY, first, last));
         }
     }
-    let start = (SideBySide::default(), CellLedger::with_edges(1));
+    let start = (SideBySide::default(), CellModel::with_edges(1));
     let count = lists_from(&start, &events, 3);
     assert!(count > 1_000, "{count} lists");
 }
 
 /// Puts every list of the given length to a state. A refused event changes
 /// nothing, so no list goes on behind one. Gives the number of accepted lists.
-fn lists_from(state: &(SideBySide, CellLedger), events: &[Event], length: usize) -> usize {
+fn lists_from(state: &(SideBySide, CellModel), events: &[Event], length: usize) -> usize {
     if length == 0 {
         return 1;
     }

@@ -1,8 +1,8 @@
 //! The case file and the answers that are stored in the repository are those
 //! that this package makes.
 
+use case_files::generate::stored::stored_file;
 use independent::answers::answer_file;
-use independent::generate::stored::stored_file;
 use std::fs;
 use std::path::{Path, PathBuf};
 

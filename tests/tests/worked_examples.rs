@@ -5,11 +5,11 @@
 mod side_by_side;
 
 use independent::event::{Event, RangeNumbers};
-use independent::generate::bodies::LayoutPlan;
-use independent::generate::events::{grant, layout_return, recall, small_body};
 use independent::io_request::{Direction, IoRequest};
 use independent::iomode::{Iomode, IOMODE_ANY, IOMODE_READ, IOMODE_RW};
 use independent::range::LAST_BYTE;
+use independent::samples::bodies::LayoutPlan;
+use independent::samples::events::{grant, layout_return, recall, small_body};
 use independent::segments::Right::{self, Granted, Recalled};
 use side_by_side::SideBySide;
 
@@ -193,7 +193,7 @@ fn eight_bodies() {
 /// "a READ recall that took RW away; a return that dropped the whole segment it
 /// touched"
 #[test]
-fn slips_of_the_old_code() {
+fn mistakes_of_the_old_code() {
     let mut both = after(&[
         grant(1, 0, 99, &small_body(2)),
         grant(2, 0, 99, &small_body(2)),

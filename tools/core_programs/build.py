@@ -15,7 +15,7 @@ from .words import say
 TOP = Path(__file__).resolve().parents[2]
 LOGS = TOP / "target" / "log"
 PROGRAMS = ("chart", "answers")
-ARCHIVE = "driver"
+ARCHIVE = "basilothyn"
 POLL = 0.5  # seconds
 UNCHANGED = 3  # seconds: no crate takes so long to be found unchanged
 BEHIND = 1  # seconds: a file's time can be a little behind the clock

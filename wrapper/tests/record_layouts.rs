@@ -1,4 +1,4 @@
-//! The records of the wrapper are laid out as those of the header, which `tests/driver/run` compares with the same file.
+//! The records of the wrapper are laid out as those of the header, which `tests/exported/run` compares with the same file.
 
 use basilothyn::raw::*;
 use std::mem::{offset_of, size_of};
@@ -36,5 +36,5 @@ fn layouts() -> String {
 
 #[test]
 fn records_are_laid_out_as_the_headers() {
-    assert_eq!(layouts(), include_str!("../../tests/driver/record_layouts"));
+    assert_eq!(layouts(), include_str!("../../tests/exported/record_layouts"));
 }

@@ -3,32 +3,32 @@ use crate::state::State;
 use events::Event;
 use events::Numbers;
 use events::Verdict;
-use print::say;
-use print::say_refused;
+use print::print_refused;
+use print::print_text;
 
-fn say_name(kind: u32) {
+fn print_name(kind: u32) {
     match kind {
-        1 => say(b"grant"),
-        4 => say(b"recall"),
-        5 => say(b"revoke"),
-        _ => say(b"return"),
+        1 => print_text(b"grant"),
+        4 => print_text(b"recall"),
+        5 => print_text(b"revoke"),
+        _ => print_text(b"return"),
     }
 }
 
-fn say_verdict(kind: u32, v: Verdict) {
-    say_name(kind);
+fn print_verdict(kind: u32, v: Verdict) {
+    print_name(kind);
     match v {
-        Verdict::Accepted => say(b" accepted"),
-        Verdict::Refused(e) => say_refused(e),
+        Verdict::Accepted => print_text(b" accepted"),
+        Verdict::Refused(e) => print_refused(e),
     }
 }
 
 // The payload of a recall or a return has: offset, length, iomode.
 fn numbers_in(payload: &[u8]) -> Numbers {
     Numbers {
-        offset: numbers::le8(payload, 0),
-        len: numbers::le8(payload, 8),
-        iomode: numbers::le4(payload, 16),
+        offset: bytes::le8(payload, 0),
+        len: bytes::le8(payload, 8),
+        iomode: bytes::le4(payload, 16),
     }
 }
 
@@ -51,7 +51,7 @@ pub(crate) fn take_event(kind: u32, payload: &[u8], state: State, store: &mut [u
     let o = events::apply(table, &mut store[..borrowed], e, payload);
     let verdict = o.verdict;
     let left = o.table;
-    say_verdict(kind, verdict);
+    print_verdict(kind, verdict);
     State {
         table: left,
         borrowed,

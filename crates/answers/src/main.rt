@@ -1,37 +1,37 @@
 // Reads a case file from standard input, puts each case to the core, and writes one line for each.
+mod case;
+mod corrupt_case;
 mod event_case;
 mod form;
-mod record;
-mod spoil_case;
 mod state;
 
 use base::STORE_SIZE;
+use case::Case;
 use libc::STDOUT_FILENO;
-use print::say_field;
-use record::Record;
+use print::print_field;
 use state::State;
 
 // A case that keeps nothing.
-fn say_wire_case(kind: u32, payload: &[u8]) {
+fn print_wire_case(kind: u32, payload: &[u8]) {
     match kind {
-        64 => wire_cases::say_layout(payload),
-        65 => wire_cases::say_layout4(payload),
-        66 => wire_cases::say_device(payload),
-        67 => wire_cases::say_bind(payload),
-        68 => wire_cases::say_report_read(payload),
-        _ => wire_cases::say_report_write(payload),
+        64 => wire_cases::print_layout(payload),
+        65 => wire_cases::print_layout4(payload),
+        66 => wire_cases::print_device(payload),
+        67 => wire_cases::print_bind(payload),
+        68 => wire_cases::print_report_read(payload),
+        _ => wire_cases::print_report_write(payload),
     }
 }
 
 // A case that leaves the table as it is.
-fn say_case(kind: u32, payload: &[u8], state: State, store: &mut [u8]) {
+fn print_case(kind: u32, payload: &[u8], state: State, store: &mut [u8]) {
     let table = state.table;
     match kind {
-        70 | 71 => table_cases::say_locate(kind == 71, payload, table, store, state.borrowed),
-        72 => table_cases::say_table(table),
-        73 => table_cases::say_store(store),
-        74 => spoil_case::set_byte(payload, store),
-        _ => say_wire_case(kind, payload),
+        70 | 71 => table_cases::print_locate(kind == 71, payload, table, store, state.borrowed),
+        72 => table_cases::print_table(table),
+        73 => table_cases::print_store(store),
+        74 => corrupt_case::set_byte(payload, store),
+        _ => print_wire_case(kind, payload),
     }
 }
 
@@ -39,11 +39,11 @@ fn say_case(kind: u32, payload: &[u8], state: State, store: &mut [u8]) {
 fn take_case(kind: u32, payload: &[u8], state: State, store: &mut [u8]) -> State {
     match kind {
         1 | 4 | 5 | 9 => event_case::take_event(kind, payload, state, store),
-        75 => spoil_case::set_segment(payload, state),
-        76 => spoil_case::reset(store),
-        77 => spoil_case::set_borrowed(payload, state),
+        75 => corrupt_case::set_segment(payload, state),
+        76 => corrupt_case::reset(store),
+        77 => corrupt_case::set_borrowed(payload, state),
         _ => {
-            say_case(kind, payload, state, store);
+            print_case(kind, payload, state, store);
             state
         }
     }
@@ -55,10 +55,10 @@ fn end_line() -> bool {
 }
 
 // The run's last line.
-fn say_last(r: Record, place: u64) {
+fn print_last(r: Case, offset: u64) {
     match r {
-        Record::End => say_field(b"end ", place),
-        _ => say_field(b"stop ", place),
+        Case::End => print_field(b"end ", offset),
+        _ => print_field(b"stop ", offset),
     }
     end_line();
 }
@@ -68,11 +68,11 @@ fn main() {
     let mut payload = [0u8; 16000];
     let mut store = [0u8; STORE_SIZE];
     let mut state = state::start();
-    let mut place: u64 = 0;
-    while place < 9223372036854775808 {
-        let r = record::read_record(&mut payload);
-        let Record::Of(kind, length) = r else {
-            say_last(r, place);
+    let mut offset: u64 = 0;
+    while offset < 9223372036854775808 {
+        let r = case::read_case(&mut payload);
+        let Case::Of(kind, length) = r else {
+            print_last(r, offset);
             return;
         };
         let size = length as usize;
@@ -83,6 +83,6 @@ fn main() {
         if !end_line() {
             return;
         }
-        place += record::HEAD + length as u64;
+        offset += case::HEAD + length as u64;
     }
 }

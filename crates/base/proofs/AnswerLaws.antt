@@ -41,15 +41,15 @@ same-refusal n k e = cc
 -- ---- what an accepted answer went through
 
 -- the question before it, and the one behind that
-pub record Gave {A B : Type 0} (x : Answer A) (f : A → Answer B) (b : B) : Type 0 where
+pub record GivenInv {A B : Type 0} (x : Answer A) (f : A → Answer B) (b : B) : Type 0 where
   pub value : A
   pub first : x ≡ accepted value
   pub rest : f value ≡ accepted b
 
-pub gave : {A B : Type 0} (x : Answer A) (f : A → Answer B) (b : B) → given x f ≡ accepted b → Gave x f b
+pub given-inv : {A B : Type 0} (x : Answer A) (f : A → Answer B) (b : B) → given x f ≡ accepted b → GivenInv x f b
 unfolding given
-gave (accepted a) f b e = record { value = a; first = refl; rest = e }
-gave (refused n) f b e = never-accepted n b e
+given-inv (accepted a) f b e = record { value = a; first = refl; rest = e }
+given-inv (refused n) f b e = never-accepted n b e
 
 -- the test that it passed
 pub pick-accepted : {A : Type 0} (t : Bool) (x : Answer A) (n : ℕ) (a : A) → pick t x (refused n) ≡ accepted a → (t ≡ true) × (x ≡ accepted a)

@@ -56,7 +56,7 @@ module _ (value : ℕ → ℕ) where
           let e : best value (suc n) ≡ best value n = best-stays n (omega arith) in
           rw e (rest (omega arith))
 
--- ---- the loop's turn
+-- ---- the loop's step
 
 -- b is picked among the indices below m, and h is its value
 pub record Picked (value : ℕ → ℕ) (m b h : ℕ) : Type 0 where

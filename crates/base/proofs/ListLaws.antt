@@ -67,16 +67,16 @@ each-behind P (suc n) (a ∷ l) g = each-behind P n l (g .1)
 
 -- ---- lists that begin alike
 
-pub alike-less : {A : Type 0} (m n : ℕ) (xs ys : List A) → m ≤ n → take n xs ≡ take n ys → take m xs ≡ take m ys
-alike-less m n xs ys h e = sym (take-take m n xs h) ∙ ap (take m) e ∙ take-take m n ys h
+pub distinct-less : {A : Type 0} (m n : ℕ) (xs ys : List A) → m ≤ n → take n xs ≡ take n ys → take m xs ≡ take m ys
+distinct-less m n xs ys h e = sym (take-take m n xs h) ∙ ap (take m) e ∙ take-take m n ys h
 
 drop-take : {A : Type 0} (n m : ℕ) (xs : List A) → drop n (take (n + m) xs) ≡ take m (drop n xs)
 drop-take zero m xs = let e : 0 + m ≡ m = omega arith in rw e
 drop-take (suc n) m [] = let e : suc n + m ≡ suc (n + m) = omega arith in rw e (sym (take-nil m))
 drop-take (suc n) m (x ∷ xs) = let e : suc n + m ≡ suc (n + m) = omega arith in rw e (drop-take n m xs)
 
-pub alike-behind : {A : Type 0} (n m : ℕ) (xs ys : List A) → take (n + m) xs ≡ take (n + m) ys → take m (drop n xs) ≡ take m (drop n ys)
-alike-behind n m xs ys e = sym (drop-take n m xs) ∙ ap (drop n) e ∙ drop-take n m ys
+pub distinct-behind : {A : Type 0} (n m : ℕ) (xs ys : List A) → take (n + m) xs ≡ take (n + m) ys → take m (drop n xs) ≡ take m (drop n ys)
+distinct-behind n m xs ys e = sym (drop-take n m xs) ∙ ap (drop n) e ∙ drop-take n m ys
 
 -- ---- a list, and one value behind it
 

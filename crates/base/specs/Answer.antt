@@ -1,10 +1,16 @@
--- The answer to a whole question: a value, or the number of the first fault met. "A refusal gives its number, no other result".
+-- The answer to a whole question: a value, or the number of the first fault met. "A refusal gives its number, no
+-- other result".
 use Prim.Native.Nat.{ℕ}
 use mathlib.Core.Bool.{Bool, true, false}
 
 pub data Answer (A : Type 0) : Type 0 where
   accepted : A → Answer A
   refused : ℕ → Answer A
+
+-- whether an answer is no refusal
+abbrev pub isAccepted : {A : Type 0} → Answer A → Bool
+isAccepted (accepted a) = true
+isAccepted (refused n) = false
 
 -- the next question, where this one was not refused
 unfoldable pub given : {A B : Type 0} → Answer A → (A → Answer B) → Answer B

@@ -20,7 +20,8 @@ numberOf (refusal.Fault fault.RangeInvalid) = 5
 numberOf (refusal.Fault fault.PaddingNotZero) = 6
 -- a boolean is neither 0 nor 1
 numberOf (refusal.Fault fault.BooleanInvalid) = 7
--- a count or length is outside its limit, a binding's set of versions is above 15, or an error list's length is not the counts' sum
+-- a count or length is outside its limit, a binding's set of versions is above 15, or an error list's length is not
+-- the counts' sum
 numberOf (refusal.Fault fault.OutsideLimit) = 8
 -- a later mirror's server count differs from the first's
 numberOf (refusal.Fault fault.ServerCountDiffers) = 9

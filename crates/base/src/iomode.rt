@@ -38,7 +38,7 @@ pub fn grant_iomode(n: u32) -> ReadIomode
     iomode_of(n)
 }
 
-pub fn why_iomode(r: ReadIomode) -> Fault
+pub fn fault_of_iomode(r: ReadIomode) -> Fault
     ensures { λ e. ⌜ faultNumber e ≡ refusalIn (answerOfIomode r) ⌝ }
 {
     match r {

@@ -11,11 +11,11 @@ pub const MOST_MIRRORS: u32 = 8;
 pub const MOST_SERVERS: u32 = 16;
 
 // "where each server starts, by mirror and by stripe .. with 0 in unused places": a row of places for each mirror
-pub const MIRROR_PLACES: usize = MOST_MIRRORS as usize;
+pub const MIRROR_ENTRIES: usize = MOST_MIRRORS as usize;
 
-pub const ROW_PLACES: usize = MOST_SERVERS as usize;
+pub const ROW_ENTRIES: usize = MOST_SERVERS as usize;
 
-pub const MOST_STARTS: usize = MIRROR_PLACES * ROW_PLACES;
+pub const MOST_STARTS: usize = MIRROR_ENTRIES * ROW_ENTRIES;
 
 // "1 to 8 filehandles a server"
 pub const MOST_FILEHANDLES: u32 = 8;
@@ -44,7 +44,7 @@ pub const LONGEST_DEVICE_BODY: usize = 2048;
 // "address count (1 to 8)"
 pub const MOST_ADDRESSES: u32 = 8;
 
-pub const ADDRESS_PLACES: usize = MOST_ADDRESSES as usize;
+pub const ADDRESS_ENTRIES: usize = MOST_ADDRESSES as usize;
 
 // "a netid (1 to 8 bytes)"
 pub const LONGEST_NETID: u32 = 8;
@@ -55,7 +55,7 @@ pub const LONGEST_ADDRESS: u32 = 64;
 // "version count (1 to 8)"
 pub const MOST_VERSIONS: u32 = 8;
 
-pub const VERSION_PLACES: usize = MOST_VERSIONS as usize;
+pub const VERSION_ENTRIES: usize = MOST_VERSIONS as usize;
 
 // "at most 32 an iomode"
 pub const MOST_SEGMENTS: usize = 32;
@@ -63,12 +63,12 @@ pub const MOST_SEGMENTS: usize = 32;
 // "8 slots of 4,096"
 pub const SLOT_COUNT: u32 = 8;
 
-pub const SLOT_PLACES: usize = SLOT_COUNT as usize;
+pub const SLOT_ENTRIES: usize = SLOT_COUNT as usize;
 
 pub const SLOT_SIZE: usize = 4096;
 
 // "a lent buffer of 32,768 bytes"
-pub const STORE_SIZE: usize = SLOT_PLACES * SLOT_SIZE;
+pub const STORE_SIZE: usize = SLOT_ENTRIES * SLOT_SIZE;
 
 // What stands before the body in a slot: "length (4 bytes, little-endian), kind (2 bytes, little-endian, value 4)".
 pub const SLOT_HEAD_SIZE: usize = 6;
@@ -76,14 +76,14 @@ pub const SLOT_HEAD_SIZE: usize = 6;
 // "Report count (0 to 8)"
 pub const MOST_REPORTS: u32 = 8;
 
-pub const REPORT_PLACES: usize = MOST_REPORTS as usize;
+pub const REPORT_ENTRIES: usize = MOST_REPORTS as usize;
 
 // "error count (1 to 16)", of one report
 pub const MOST_ERRORS: u32 = 16;
 
 // The errors of all reports together.
 
-pub const MOST_ERRORS_IN_ALL: usize = REPORT_PLACES * MOST_ERRORS as usize;
+pub const MOST_ERRORS_IN_ALL: usize = REPORT_ENTRIES * MOST_ERRORS as usize;
 
 // A report before its errors: "offset, length .., stateid, error count".
 pub const REPORT_HEAD_SIZE: usize = 36;

@@ -7,8 +7,8 @@ use native.Mathlib.Omega.{arith}
 use lib.ListN.{length, drop, getD, take, length-take, drop-of-length-le}
 use lib.Seq.{drop-cons, getD-take}
 use Rattle.base.specs.Answer.{accepted, refused, pick}
-use Rattle.device_version.specs.Versions.{blankVersion}
-use Rattle.device_version.specs.declared.version.Version.{Version}
+use Rattle.device.specs.Versions.{blankVersion}
+use Rattle.device.specs.declared.version.Version.{Version}
 use Rattle.binding.specs.Bindings.{chosenFrom, supports}
 
 pub chosen-next : (set n i : ℕ) (vs : List Version) → i < n → n ≤ length vs

@@ -1,5 +1,5 @@
--- "Given a layout body, a mirror and stripe number, a device body, the device id it was fetched under and the set of spoken versions (bits 1,
--- 2, 4, 8 for 3, 4.0, 4.1, 4.2). Check layout body, device body, 16, 8, 13, 14, 15."
+-- "Given a layout body, a mirror and stripe number, a device body, the device id it was fetched under and the set of
+-- spoken versions (bits 1, 2, 4, 8 for 3, 4.0, 4.1, 4.2). Check layout body, device body, 16, 8, 13, 14, 15."
 use Prim.Native.Nat.{ℕ, _+_}
 use mathlib.Core.List.{List, [], _∷_}
 use mathlib.Core.Bool.{Bool, _&&_, _||_, not}
@@ -8,26 +8,26 @@ use lib.Dec.{leb, ltb, eqb}
 use Rattle.base.specs.Limits.{deviceIdSize, everyVersion, longestFilehandle, stateidSize}
 use Rattle.base.specs.Answer.{Answer, accepted, refused, given, pick}
 use Rattle.base.specs.Bits.{bit}
-use Rattle.numbers.specs.Numbers.{bytesFrom, sameBytes}
-use Rattle.xdr.specs.Res.{Res, ok, no, then}
+use Rattle.bytes.specs.Numbers.{bytesFrom, sameBytes}
+use Rattle.xdr.specs.Parsed.{Parsed, ok, fault, then}
 use Rattle.xdr.specs.Items.{opaqueAt}
 use Rattle.xdr.specs.declared.Part.{Part}
 use Rattle.server.specs.Servers.{handlesAt, serverAt}
 use Rattle.server.specs.declared.item.Server.{Server}
 use Rattle.layout.specs.Layouts.{layoutBody, startAt}
 use Rattle.device.specs.Bodies.{deviceBody}
-use Rattle.device_version.specs.Versions.{blankVersion}
-use Rattle.device_version.specs.declared.version.Version.{Version}
+use Rattle.device.specs.Versions.{blankVersion}
+use Rattle.device.specs.declared.version.Version.{Version}
 use Rattle.binding.specs.declared.entry.Bound.{Bound}
 
 -- go on where a test passes, else refuse with a number
-unfoldable pub must : {A : Type 0} → Bool → ℕ → Answer A → Answer A
-must test n next = pick test next (refused n)
+unfoldable pub require : {A : Type 0} → Bool → ℕ → Answer A → Answer A
+require test n next = pick test next (refused n)
 
 -- an item, without the place behind it
-unfoldable pub valueOf : {A : Type 0} → Res A → Answer A
+unfoldable pub valueOf : {A : Type 0} → Parsed A → Answer A
 valueOf (ok a at) = accepted a
-valueOf (no n) = refused n
+valueOf (fault n) = refused n
 
 -- "bits 1, 2, 4, 8 for 3, 4.0, 4.1, 4.2"; an accepted entry is one of these four
 unfoldable pub supports : ℕ → Version → Bool
@@ -41,7 +41,7 @@ chosenFrom set i [] = refused 14
 chosenFrom set i (v ∷ vs) = pick (supports set v) (accepted i) (chosenFrom set (i + 1) vs)
 
 -- "and the filehandle at its place": the one behind i others
-unfoldable pub handleAt : ℕ → List ℕ → ℕ → Res Part
+unfoldable pub handleAt : ℕ → List ℕ → ℕ → Parsed Part
 handleAt i s at = then (handlesAt i s at) λ passed p. opaqueAt 1 longestFilehandle s p
 
 -- "device id, or filehandle and version counts, differ in binding" is 13
@@ -54,27 +54,27 @@ stateidFits s v stateid = not (eqb (v .version) 4)
     || (v .tight || sameBytes (bytesFrom stateidSize s stateid) (replicate stateidSize 0))
 
 -- what is not used of a binding
-abbrev pub nowhere : Part
-nowhere = record { start = 0; len = 0 }
+abbrev pub noBytes : Part
+noBytes = record { start = 0; len = 0 }
 
 -- "If tight, the stateid is used and user and group are not; else the reverse."
 unfoldable pub bound : Server → Version → ℕ → Part → Bound
 bound server v i handle =
     pick (v .tight)
-    (record { entry = i; version = v; filehandle = handle; stateid = server .stateid; user = nowhere; group = nowhere })
+    (record { entry = i; version = v; filehandle = handle; stateid = server .stateid; user = noBytes; group = noBytes })
     (record { entry = i; version = v; filehandle = handle; stateid = 0; user = server .user; group = server .group })
 
 -- a server and the entry chosen for it
 unfoldable pub entryBound : List ℕ → Server → Version → ℕ → Answer Bound
 entryBound s server v i =
-    must (stateidFits s v (server .stateid)) 15
+    require (stateidFits s v (server .stateid)) 15
     (given (valueOf (handleAt i s (server .«first_handle»))) λ handle. accepted (bound server v i handle))
 
 -- the server that starts at a place, against the device's first count entries
 unfoldable pub serverBound : List ℕ → ℕ → List Version → ℕ → List ℕ → ℕ → Answer Bound
 serverBound s start versions count id set =
     given (valueOf (serverAt s start)) λ server.
-    must (matches s server count id) 13
+    require (matches s server count id) 13
     (given (chosenFrom set 0 (take count versions)) λ i. entryBound s server (getD versions i blankVersion) i)
 
 -- "Check layout body, device body, 16, 8, 13, 14, 15."
@@ -82,7 +82,7 @@ unfoldable pub boundTo : List ℕ → ℕ → ℕ → List ℕ → List ℕ → 
 boundTo layout mirror stripe device id set =
     given (layoutBody layout) λ l.
     given (deviceBody device) λ d.
-    must (ltb mirror (l .summary .mirrors)) 16
-    (must (ltb stripe (l .summary .servers)) 16
-    (must (leb set everyVersion) 8
+    require (ltb mirror (l .summary .mirrors)) 16
+    (require (ltb stripe (l .summary .servers)) 16
+    (require (leb set everyVersion) 8
     (serverBound layout (startAt (l .starts) mirror stripe) (d .versions) (d .versionCount) id set)))

@@ -28,12 +28,12 @@ pub fn bind(
     let l = layout::read_layout(layout);
     let a = l.answer;
     let LayoutAnswer::Value(summary) = a else {
-        return Binding::Refused(Refusal::Fault(layout::why_layout(a)));
+        return Binding::Refused(Refusal::Fault(layout::fault_of_layout(a)));
     };
     let d = device::read_device(device);
     let b = d.answer;
     let DeviceAnswer::Counts(_, count) = b else {
-        return Binding::Refused(Refusal::Fault(device::why_device(b)));
+        return Binding::Refused(Refusal::Fault(device::fault_of_device(b)));
     };
     if summary.mirrors <= mirror.0 {
         return Binding::Refused(Refusal::BeyondLayout);

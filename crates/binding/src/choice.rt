@@ -2,8 +2,8 @@
 use base::Fault;
 use base::LONGEST_FILEHANDLE;
 use base::Refusal;
-use base::VERSION_PLACES;
-use device_version::Version;
+use base::VERSION_ENTRIES;
+use device::Version;
 use xdr::Cursor;
 use xdr::ReadEnd;
 use xdr::ReadPart;
@@ -13,7 +13,7 @@ ghost use Rattle.base.specs.Answer.{refusalIn};
 ghost use Rattle.base.specs.Refusals.{numberOf};
 ghost use Prim.Native.Nat.{_≤_, _<_};
 ghost use lib.ListN.{take};
-ghost use Rattle.xdr.specs.Answers.{resOfPart};
+ghost use Rattle.xdr.specs.Answers.{parsedOfPart};
 ghost use Rattle.binding.specs.Bindings.{chosenFrom, handleAt, supports};
 ghost use Rattle.binding.specs.Answers.{answerOfChoice};
 
@@ -39,7 +39,7 @@ pub(crate) fn supported_by(set: u32, v: Version) -> bool
 }
 
 // The first of the n entries that is supported.
-pub(crate) fn choose(set: u32, versions: [Version; VERSION_PLACES], n: u32) -> Choice
+pub(crate) fn choose(set: u32, versions: [Version; VERSION_ENTRIES], n: u32) -> Choice
     requires { ⌜ n ≤ mostVersions ⌝ }
     ensures { λ r. ⌜ answerOfChoice r ≡ chosenFrom set 0 (take n versions) ⌝ }
 {
@@ -54,7 +54,7 @@ pub(crate) fn choose(set: u32, versions: [Version; VERSION_PLACES], n: u32) -> C
     Choice::Refused(Refusal::NoSupportedVersion)
 }
 
-pub(crate) fn why_choice(r: Choice) -> Refusal
+pub(crate) fn refusal_of_choice(r: Choice) -> Refusal
     ensures { λ e. ⌜ numberOf e ≡ refusalIn (answerOfChoice r) ⌝ }
 {
     match r {
@@ -65,11 +65,11 @@ pub(crate) fn why_choice(r: Choice) -> Refusal
 
 // The filehandle behind i others.
 pub(crate) fn read_handle(s: &[u8], first: Cursor, i: u32) -> ReadPart
-    ensures { λ r. ⌜ resOfPart r ≡ handleAt i (now (s .entry)) (first .at) ⌝ }
+    ensures { λ r. ⌜ parsedOfPart r ≡ handleAt i (now (s .entry)) (first .at) ⌝ }
 {
     let p = server::skip_handles(s, first, i);
     let ReadEnd::Value(c) = p else {
-        return ReadPart::Refused(xdr::why_end(p));
+        return ReadPart::Refused(xdr::fault_of_end(p));
     };
     xdr::read_opaque(s, c, 1, LONGEST_FILEHANDLE)
 }

@@ -2,12 +2,12 @@
 use crate::choice::Choice;
 use crate::choice::choose;
 use crate::choice::read_handle;
-use crate::choice::why_choice;
+use crate::choice::refusal_of_choice;
 use base::DEVICE_ID_SIZE;
 use base::Refusal;
 use base::STATEID_SIZE;
-use base::VERSION_PLACES;
-use device_version::Version;
+use base::VERSION_ENTRIES;
+use device::Version;
 use server::ReadServer;
 use server::Server;
 use xdr::Cursor;
@@ -20,8 +20,8 @@ ghost use Rattle.base.specs.Limits.{deviceIdSize, mostVersions, stateidSize};
 ghost use Rattle.binding.specs.Bindings.{entryBound, matches, serverBound, stateidFits};
 ghost use Rattle.binding.specs.Answers.{answerOfBinding};
 
-// The entry's number and fields, and its filehandle. A tightly coupled entry has the place of the stateid, another one user and group; what is
-// not used is 0.
+// The entry's number and fields, and its filehandle. A tightly coupled entry has the place of the stateid, another
+// one user and group; what is not used is 0.
 pub struct Bound {
     pub entry: u32,
     pub version: Version,
@@ -36,7 +36,7 @@ pub enum Binding {
     Refused(Refusal),
 }
 
-const NOWHERE: Part = Part { start: 0, len: 0 };
+const NO_BYTES: Part = Part { start: 0, len: 0 };
 
 // A loosely coupled version 4 takes the anonymous stateid, so the layout has 16 zero bytes there.
 fn stateid_fits(s: &[u8], v: Version, stateid: usize) -> bool
@@ -50,7 +50,7 @@ fn stateid_fits(s: &[u8], v: Version, stateid: usize) -> bool
         return true;
     }
     let end = stateid + STATEID_SIZE;
-    numbers::same(&s[stateid..end], &[0u8; STATEID_SIZE])
+    bytes::same(&s[stateid..end], &[0u8; STATEID_SIZE])
 }
 
 // The server is the device's: its id, and a filehandle for each version entry.
@@ -60,7 +60,7 @@ fn server_matches(s: &[u8], server: Server, count: u32, id: &[u8; DEVICE_ID_SIZE
 {
     let start = server.device;
     let end = start + DEVICE_ID_SIZE;
-    if !numbers::same(&s[start..end], id) {
+    if !bytes::same(&s[start..end], id) {
         return false;
     }
     server.handles == count
@@ -81,7 +81,7 @@ fn bind_entry(s: &[u8], server: Server, v: Version, i: u32) -> Binding
         i,
     );
     let ReadPart::Value(filehandle, _) = h else {
-        return Binding::Refused(Refusal::Fault(xdr::why_part(h)));
+        return Binding::Refused(Refusal::Fault(xdr::fault_of_part(h)));
     };
     if v.tight {
         return Binding::Value(Bound {
@@ -89,8 +89,8 @@ fn bind_entry(s: &[u8], server: Server, v: Version, i: u32) -> Binding
             version: v,
             filehandle,
             stateid: server.stateid,
-            user: NOWHERE,
-            group: NOWHERE,
+            user: NO_BYTES,
+            group: NO_BYTES,
         });
     }
     let user = server.user;
@@ -109,7 +109,7 @@ fn bind_entry(s: &[u8], server: Server, v: Version, i: u32) -> Binding
 pub(crate) fn bind_server(
     s: &[u8],
     start: usize,
-    versions: [Version; VERSION_PLACES],
+    versions: [Version; VERSION_ENTRIES],
     count: u32,
     id: &[u8; DEVICE_ID_SIZE],
     set: u32,
@@ -119,14 +119,14 @@ pub(crate) fn bind_server(
 {
     let r = server::read_server(s, Cursor { at: start });
     let ReadServer::Value(server, _) = r else {
-        return Binding::Refused(Refusal::Fault(server::why_server(r)));
+        return Binding::Refused(Refusal::Fault(server::fault_of_server(r)));
     };
     if !server_matches(s, server, count, id) {
         return Binding::Refused(Refusal::BindingDiffers);
     }
     let e = choose(set, versions, count);
     let Choice::Entry(i) = e else {
-        return Binding::Refused(why_choice(e));
+        return Binding::Refused(refusal_of_choice(e));
     };
     let v = versions[i as usize];
     bind_entry(s, server, v, i)

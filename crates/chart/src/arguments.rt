@@ -1,7 +1,7 @@
 // What the words behind the file's name ask for.
-use print::say;
+use print::print_text;
 
-pub struct Wish {
+pub struct Options {
     // The first offset, if numbers is not 0.
     pub first: u64,
     pub units: usize,
@@ -10,9 +10,9 @@ pub struct Wish {
     pub numbers: u32,
 }
 
-pub enum ReadWish {
-    Value(Wish),
-    Unclear,
+pub enum ReadOptions {
+    Value(Options),
+    Invalid,
 }
 
 pub enum ReadNumber {
@@ -22,9 +22,9 @@ pub enum ReadNumber {
 
 const MOST_UNITS: u64 = 64;
 
-pub(crate) fn say_usage() {
-    say(b"usage: chart FILE [FIRST [UNITS]] [svg]\n");
-    say(
+pub(crate) fn print_usage() {
+    print_text(b"usage: chart FILE [FIRST [UNITS]] [svg]\n");
+    print_text(
         b"FILE has one layout4 as on the wire. The chart shows UNITS stripe units, 1 to 64, from the offset FIRST on.\n",
     );
 }
@@ -58,74 +58,74 @@ fn read_number(text: &[u8]) -> ReadNumber {
     ReadNumber::Value(v)
 }
 
-// The wish with one more number in it: the first is an offset, the second a count of units.
-fn with_number(w: Wish, v: u64) -> ReadWish {
+// The options with one more number in it: the first is an offset, the second a count of units.
+fn with_number(w: Options, v: u64) -> ReadOptions {
     let mut r = w;
     if w.numbers == 0 {
         r.first = v;
         r.numbers = 1;
-        return ReadWish::Value(r);
+        return ReadOptions::Value(r);
     }
     if w.numbers != 1 {
-        return ReadWish::Unclear;
+        return ReadOptions::Invalid;
     }
     if v == 0 {
-        return ReadWish::Unclear;
+        return ReadOptions::Invalid;
     }
     if MOST_UNITS < v {
-        return ReadWish::Unclear;
+        return ReadOptions::Invalid;
     }
     r.units = v as usize;
     r.numbers = 2;
-    ReadWish::Value(r)
+    ReadOptions::Value(r)
 }
 
-fn with_word(w: Wish, word: &[u8]) -> ReadWish {
-    if numbers::same(word, b"svg") {
+fn with_word(w: Options, word: &[u8]) -> ReadOptions {
+    if bytes::same(word, b"svg") {
         let mut r = w;
         r.svg = true;
-        return ReadWish::Value(r);
+        return ReadOptions::Value(r);
     }
     let n = read_number(word);
     let ReadNumber::Value(v) = n else {
-        return ReadWish::Unclear;
+        return ReadOptions::Invalid;
     };
     with_number(w, v)
 }
 
-// The word of one argument. A word longer than the buffer is no word of a wish.
-fn with_argument(w: Wish, i: usize) -> ReadWish {
+// The word of one argument. A word longer than the buffer is no word of the options.
+fn with_argument(w: Options, i: usize) -> ReadOptions {
     let mut word = [0u8; 32];
     let n = os::arg(i, &mut word);
     if os::errno() != 0 {
-        return ReadWish::Unclear;
+        return ReadOptions::Invalid;
     }
     with_word(w, &word[..n])
 }
 
 // At most three words stand behind the file's name.
-pub(crate) fn read_wish() -> ReadWish {
+pub(crate) fn read_options() -> ReadOptions {
     let count = os::arg_count();
-    let mut w = Wish {
+    let mut w = Options {
         first: 0,
         units: 8,
         svg: false,
         numbers: 0,
     };
     if count < 2 {
-        return ReadWish::Unclear;
+        return ReadOptions::Invalid;
     }
     if 5 < count {
-        return ReadWish::Unclear;
+        return ReadOptions::Invalid;
     }
     let mut i: usize = 2;
     while i < count {
         let r = with_argument(w, i);
-        let ReadWish::Value(next) = r else {
-            return ReadWish::Unclear;
+        let ReadOptions::Value(next) = r else {
+            return ReadOptions::Invalid;
         };
         w = next;
         i += 1;
     }
-    ReadWish::Value(w)
+    ReadOptions::Value(w)
 }

@@ -45,7 +45,7 @@ fn column_at(t: Table, store: &[u8], write: bool, first: u64, offset: u64) -> Co
 }
 
 // The offset behind a column. A chart ends where the longest request does, before the last byte of all.
-fn behind(offset: u64, length: u64) -> u64 {
+fn next_offset(offset: u64, length: u64) -> u64 {
     if LARGEST_SUM - offset < length {
         return LARGEST_SUM;
     }
@@ -73,7 +73,7 @@ pub(crate) fn find_columns(
         }
         let c = column_at(t, store, write, first, offset);
         items[i] = c;
-        offset = behind(offset, c.length);
+        offset = next_offset(offset, c.length);
         i += 1;
     }
     Columns { items, count: 64 }

@@ -5,17 +5,17 @@ use mathlib.Core.Bool.{true}
 use mathlib.Core.List.{List, [], _∷_}
 use Rattle.base.specs.Iomodes.{grantIomodeOf}
 use Rattle.base.specs.Ranges.{rangeLast, requestLast}
-use Rattle.xdr.specs.Res.{Res}
+use Rattle.xdr.specs.Parsed.{Parsed}
 use Rattle.xdr.specs.Lists.{listAt}
-use Rattle.server.specs.Servers.{handlesAt, headAt, serverAt}
+use Rattle.server.specs.Servers.{handlesAt, serverHeadAt, serverAt}
 use Rattle.layout.specs.Layouts.{frontAt, layoutAt, layoutBody, mirrorAt, mirrorsAt, tailAt}
 use Rattle.layout4.specs.Layout4s.{frameAt, layout4, layout4At, rangeAt}
-use Rattle.netaddr.specs.Addresses.{addressAt}
-use Rattle.device_version.specs.Versions.{judged, versionAt}
+use Rattle.device.specs.Addresses.{addressAt}
+use Rattle.device.specs.Versions.{checkedVersion, versionAt}
 use Rattle.device.specs.Bodies.{deviceAt, deviceBody}
 use Rattle.report.specs.Reports as report
 use Rattle.report.specs.declared.ReportHead.{ReportHead}
-use Rattle.report_write.specs.Writing as write
+use Rattle.report.specs.Writing as write
 use Rattle.claims.proofs.Faults.{FaultsIn, RefusalsIn, accepts, allIn, asked, bool-faults, bytes-faults, chosen, count-faults, inside-faults, many-faults, num-faults, opaque-faults, read, run, sixteen-faults, tested, tested-answer, whole-refusals, wider}
 
 -- ---- ranges and iomodes
@@ -30,8 +30,8 @@ iomode-refusals n = chosen _ accepts (tested-answer _ 3 accepts refl)
 
 -- ---- the layout body
 
-head-faults : (s : List ℕ) (at : ℕ) → FaultsIn (1 ∷ 6 ∷ 8 ∷ []) (headAt s at)
-unfolding headAt
+head-faults : (s : List ℕ) (at : ℕ) → FaultsIn (1 ∷ 6 ∷ 8 ∷ []) (serverHeadAt s at)
+unfolding serverHeadAt
 head-faults s at =
     run (bytes-faults 16 s at) refl λ device p1.
     run (num-faults 4 s p1) refl λ efficiency p2.
@@ -110,7 +110,7 @@ layout4-faults s =
     run (frame-faults s 0) refl λ frame p1.
     tested _ 1
     (run (inside-faults _ _ (layout-refusals _)) refl λ body p2.
-    run (bytes-faults (frame .size) s p2) refl λ place p3.
+    run (bytes-faults (frame .size) s p2) refl λ index p3.
     read)
     refl
 
@@ -125,7 +125,7 @@ unfolding addressAt
 address-faults s at = run (opaque-faults 1 8 s at) refl λ netid p. run (opaque-faults 1 64 s p) refl λ text q. read
 
 version-faults : (s : List ℕ) (at : ℕ) → FaultsIn (1 ∷ 7 ∷ 12 ∷ []) (versionAt s at)
-unfolding versionAt judged
+unfolding versionAt checkedVersion
 version-faults s at =
     run (num-faults 4 s at) refl λ version p.
     run (num-faults 4 s p) refl λ minor q.
@@ -134,7 +134,7 @@ version-faults s at =
     run (bool-faults s u) refl λ tight v.
     tested _ 12 read refl
 
-list-faults : {A : Type 0} (ns : List ℕ) (lo hi : ℕ) (item : List ℕ → ℕ → Res A) (blank : A) (s : List ℕ) (at : ℕ) → allIn (1 ∷ 8 ∷ []) ns ≡ true
+list-faults : {A : Type 0} (ns : List ℕ) (lo hi : ℕ) (item : List ℕ → ℕ → Parsed A) (blank : A) (s : List ℕ) (at : ℕ) → allIn (1 ∷ 8 ∷ []) ns ≡ true
     → ((s : List ℕ) (at : ℕ) → FaultsIn ns (item s at)) → allIn ns ns ≡ true → FaultsIn ns (listAt lo hi item blank s at)
 unfolding listAt
 list-faults ns lo hi item blank s at i h j =
@@ -163,8 +163,8 @@ error-faults s at =
     run (num-faults 4 s p2) refl λ operation p3.
     tested _ 27 read refl
 
-report-head-faults : (s : List ℕ) (at : ℕ) → FaultsIn (1 ∷ 5 ∷ 8 ∷ []) (report.headAt s at)
-unfolding report.headAt
+report-head-faults : (s : List ℕ) (at : ℕ) → FaultsIn (1 ∷ 5 ∷ 8 ∷ []) (report.reportHeadAt s at)
+unfolding report.reportHeadAt
 report-head-faults s at =
     run (num-faults 8 s at) refl λ offset p1.
     run (num-faults 8 s p1) refl λ len p2.
@@ -195,19 +195,19 @@ report-refusals s =
 
 -- ---- error reports, written
 
-one-refusals : (h : ReportHead) (es : List write.ErrorRecord) → RefusalsIn (5 ∷ 8 ∷ 27 ∷ []) (write.judgedOne h es)
-unfolding write.judgedOne
+one-refusals : (h : ReportHead) (es : List write.ErrorEntry) → RefusalsIn (5 ∷ 8 ∷ 27 ∷ []) (write.checkedReport h es)
+unfolding write.checkedReport
 one-refusals h es =
     asked (range-refusals (h .offset) (h .length)) refl λ last.
     tested-answer _ 8 (tested-answer _ 27 accepts refl) refl
 
-judged-refusals : (hs : List ReportHead) (es : List write.ErrorRecord) → RefusalsIn (5 ∷ 8 ∷ 27 ∷ []) (write.judged hs es)
-unfolding write.judged
-judged-refusals [] es = accepts
-judged-refusals (h ∷ hs) es = asked (one-refusals h _) refl λ u. judged-refusals hs _
+checked-refusals : (hs : List ReportHead) (es : List write.ErrorEntry) → RefusalsIn (5 ∷ 8 ∷ 27 ∷ []) (write.checkedReports hs es)
+unfolding write.checkedReports
+checked-refusals [] es = accepts
+checked-refusals (h ∷ hs) es = asked (one-refusals h _) refl λ u. checked-refusals hs _
 
-pub written-refusals : (count : ℕ) (heads : List ReportHead) (errors : List write.ErrorRecord) (room : ℕ)
+pub written-refusals : (count : ℕ) (heads : List ReportHead) (errors : List write.ErrorEntry) (room : ℕ)
     → RefusalsIn (5 ∷ 8 ∷ 26 ∷ 27 ∷ []) (write.reportsWritten count heads errors room)
 unfolding write.reportsWritten write.bodyWritten write.fitted
 written-refusals count heads errors room =
-    tested-answer _ 8 (tested-answer _ 8 (asked (judged-refusals _ _) refl λ u. tested-answer _ 26 accepts refl) refl) refl
+    tested-answer _ 8 (tested-answer _ 8 (asked (checked-refusals _ _) refl λ u. tested-answer _ 26 accepts refl) refl) refl

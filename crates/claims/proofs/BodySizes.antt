@@ -6,27 +6,27 @@ use native.Mathlib.Omega.{arith}
 use borrow.Author.Tests.{leb-true}
 use lib.ListN.{length}
 use Rattle.base.specs.Answer.{accepted}
-use Rattle.numbers.specs.Numbers.{bytesFrom}
-use Rattle.numbers.proofs.NumberLaws.{length-bytes}
-use Rattle.xdr.specs.Res.{ok, manyAt}
+use Rattle.bytes.specs.Numbers.{bytesFrom}
+use Rattle.bytes.proofs.NumberLaws.{length-bytes}
+use Rattle.xdr.specs.Parsed.{ok, manyAt}
 use Rattle.xdr.specs.Items.{opaqueAt, padding}
 use Rattle.xdr.specs.declared.Part.{Part}
-use Rattle.xdr.proofs.Accepted.{bytes-read, count-read, item-accepted, number-read, opaque-read, passed, ran, same-place, same-value, whole-read}
+use Rattle.xdr.proofs.Accepted.{bytes-read, count-read, item-accepted, number-read, opaque-read, pick-inv, then-inv, same-offset, same-value, whole-read}
 use Rattle.xdr.proofs.ManyLaws.{many-exact, many-least, many-length}
 use Rattle.server.specs.Servers.{handlesAt, serverAt}
 use Rattle.server.specs.declared.item.Server.{Server}
 use Rattle.server.proofs.ServerLaws.{head-read}
 use Rattle.layout.specs.Layouts.{Layout, frontAt, layoutBody, mirrorAt, mirrorsAt, tailAt}
-use Rattle.layout.specs.declared.ends.Front.{Front}
-use Rattle.layout.specs.declared.ends.Tail.{Tail}
+use Rattle.layout.specs.declared.front_and_tail.Front.{Front}
+use Rattle.layout.specs.declared.front_and_tail.Tail.{Tail}
 use Rattle.layout.proofs.LayoutLaws.{accepted-parts}
-use Rattle.layout4.specs.Layout4s.{Whole, frameAt, layout4, layout4At, rangeAt}
+use Rattle.layout4.specs.Layout4s.{WholeLayout, frameAt, layout4, layout4At, rangeAt}
 use Rattle.layout4.specs.declared.frame.Frame.{Frame}
 use Rattle.layout4.specs.declared.frame.Range.{Range}
-use Rattle.report.specs.Reports.{Report, errorAt, headAt, reportAt, reportBody, reportsAt}
+use Rattle.report.specs.Reports.{Report, errorAt, reportHeadAt, reportAt, reportBody, reportsAt}
 use Rattle.report.specs.declared.ErrorItem.{ErrorItem}
 use Rattle.report.specs.declared.ReportHead.{ReportHead}
-use Rattle.report_write.specs.Writing.{counts}
+use Rattle.report.specs.Writing.{counts}
 
 -- ---- the layout body
 
@@ -44,48 +44,48 @@ handle-least s at v p e =
 server-least : (s : List ℕ) (at : ℕ) (v : Server) (p : ℕ) → serverAt s at ≡ ok v p → at + 56 ≤ p
 unfolding serverAt handlesAt
 server-least s at v p h =
-    let d = ran _ _ v p h in
+    let d = then-inv _ _ v p h in
     let k = head-read s at (d .item) (d .next) (d .first) in
-    let n = ran _ _ v p (d .rest) in
-    let u = ran _ _ v p (n .rest) in
-    let g = ran _ _ v p (u .rest) in
+    let n = then-inv _ _ v p (d .rest) in
+    let u = then-inv _ _ v p (n .rest) in
+    let g = then-inv _ _ v p (u .rest) in
     let hs = many-least (opaqueAt 1 128) 8 s (handle-least s) (d .item .handles) (d .next) (n .item) (n .next) (n .first) in
     let us = opaque-least 0 64 s (n .next) (u .item) (u .next) (u .first) in
     let gs = opaque-least 0 64 s (u .next) (g .item) (g .next) (g .first) in
-    let f : g .next ≡ p = same-place (g .rest) in
+    let f : g .next ≡ p = same-offset (g .rest) in
     omega (arith, k .end, k .some, hs, us, gs, f)
 
 front-size : (s : List ℕ) (at : ℕ) (v : Front) (p : ℕ) → frontAt s at ≡ ok v p → (p ≡ at + 16) × (1 ≤ v .servers)
 unfolding frontAt
 front-size s at v p h =
-    let u = ran _ _ v p h in
-    let m = ran _ _ v p (u .rest) in
-    let n = ran _ _ v p (m .rest) in
-    let t = passed _ _ 10 v p (n .rest) in
+    let u = then-inv _ _ v p h in
+    let m = then-inv _ _ v p (u .rest) in
+    let n = then-inv _ _ v p (m .rest) in
+    let t = pick-inv _ _ 10 v p (n .rest) in
     let un = number-read 8 s at (u .item) (u .next) (u .first) in
     let mn = count-read 1 8 s (u .next) (m .item) (m .next) (m .first) in
     let nn = count-read 1 16 s (m .next) (n .item) (n .next) (n .first) in
     let e : n .item ≡ v .servers = ap (λ (x : Front). x .servers) (same-value (t .chosen)) in
-    let f : n .next ≡ p = same-place (t .chosen) in
+    let f : n .next ≡ p = same-offset (t .chosen) in
     (omega (arith, un .end, mn .number .end, nn .number .end, f), omega (arith, nn .low, e))
 
 tail-size : (s : List ℕ) (at : ℕ) (v : Tail) (p : ℕ) → tailAt s at ≡ ok v p → p ≡ at + 8
 unfolding tailAt
 tail-size s at v p h =
-    let f = ran _ _ v p h in
-    let t = passed _ _ 11 v p (f .rest) in
-    let n = ran _ _ v p (t .chosen) in
+    let f = then-inv _ _ v p h in
+    let t = pick-inv _ _ 11 v p (f .rest) in
+    let n = then-inv _ _ v p (t .chosen) in
     let fn = number-read 4 s at (f .item) (f .next) (f .first) in
     let hn = number-read 4 s (f .next) (n .item) (n .next) (n .first) in
-    let e : n .next ≡ p = same-place (n .rest) in
+    let e : n .next ≡ p = same-offset (n .rest) in
     omega (arith, fn .end, hn .end, e)
 
 -- a mirror behind the first takes some bytes
 mirror-least : (n : ℕ) (s : List ℕ) (at : ℕ) (m : List Server) (p : ℕ) → mirrorAt n s at ≡ ok m p → at + 0 ≤ p
 unfolding mirrorAt
 mirror-least n s at m p h =
-    let c = ran _ _ m p h in
-    let t = passed _ _ 9 m p (c .rest) in
+    let c = then-inv _ _ m p h in
+    let t = pick-inv _ _ 9 m p (c .rest) in
     let k = count-read 1 16 s at (c .item) (c .next) (c .first) in
     omega (arith, k .number .end, many-least serverAt 56 s (server-least s) n (c .next) m p (t .chosen))
 
@@ -93,11 +93,11 @@ mirrors-least : (mirrors servers : ℕ) (s : List ℕ) (at : ℕ) (ms : List (Li
     → at + servers * 56 ≤ p
 unfolding mirrorsAt
 mirrors-least mirrors servers s at ms p h =
-    let f = ran _ _ ms p h in
-    let o = ran _ _ ms p (f .rest) in
+    let f = then-inv _ _ ms p h in
+    let o = then-inv _ _ ms p (f .rest) in
     let a = many-least serverAt 56 s (server-least s) servers at (f .item) (f .next) (f .first) in
     let b = many-least (mirrorAt servers) 0 s (mirror-least servers s) (mirrors - 1) (f .next) (o .item) (o .next) (o .first) in
-    let e : o .next ≡ p = same-place (o .rest) in
+    let e : o .next ≡ p = same-offset (o .rest) in
     omega (arith, a, b, e)
 
 pub layout-least : (s : List ℕ) (l : Layout) → layoutBody s ≡ accepted l → 80 ≤ length s
@@ -113,39 +113,39 @@ layout-least s l e =
 range-size : (s : List ℕ) (at : ℕ) (v : Range) (p : ℕ) → rangeAt s at ≡ ok v p → p ≡ at + 16
 unfolding rangeAt
 range-size s at v p h =
-    let o = ran _ _ v p h in
-    let l = ran _ _ v p (o .rest) in
-    let r = ran _ _ v p (l .rest) in
+    let o = then-inv _ _ v p h in
+    let l = then-inv _ _ v p (o .rest) in
+    let r = then-inv _ _ v p (l .rest) in
     let on = number-read 8 s at (o .item) (o .next) (o .first) in
     let ln = number-read 8 s (o .next) (l .item) (l .next) (l .first) in
     let i = item-accepted _ (l .next) (r .item) (r .next) (r .first) in
-    let e : r .next ≡ p = same-place (r .rest) in
+    let e : r .next ≡ p = same-offset (r .rest) in
     omega (arith, on .end, ln .end, i .1, e)
 
 frame-size : (s : List ℕ) (at : ℕ) (v : Frame) (p : ℕ) → frameAt s at ≡ ok v p → p ≡ at + 28
 unfolding frameAt
 frame-size s at v p h =
-    let r = ran _ _ v p h in
-    let n = ran _ _ v p (r .rest) in
-    let m = ran _ _ v p (n .rest) in
-    let k = ran _ _ v p (m .rest) in
-    let t = passed _ _ 4 v p (k .rest) in
-    let c = ran _ _ v p (t .chosen) in
+    let r = then-inv _ _ v p h in
+    let n = then-inv _ _ v p (r .rest) in
+    let m = then-inv _ _ v p (n .rest) in
+    let k = then-inv _ _ v p (m .rest) in
+    let t = pick-inv _ _ 4 v p (k .rest) in
+    let c = then-inv _ _ v p (t .chosen) in
     let rs = range-size s at (r .item) (r .next) (r .first) in
     let nn = number-read 4 s (r .next) (n .item) (n .next) (n .first) in
     let mi = item-accepted _ (n .next) (m .item) (m .next) (m .first) in
     let kn = number-read 4 s (m .next) (k .item) (k .next) (k .first) in
     let cn = count-read 0 4090 s (k .next) (c .item) (c .next) (c .first) in
-    let e : c .next ≡ p = same-place (c .rest) in
+    let e : c .next ≡ p = same-offset (c .rest) in
     omega (arith, rs, nn .end, mi .1, kn .end, cn .number .end, e)
 
-pub layout4-least : (s : List ℕ) (w : Whole) → layout4 s ≡ accepted w → 108 ≤ length s
+pub layout4-least : (s : List ℕ) (w : WholeLayout) → layout4 s ≡ accepted w → 108 ≤ length s
 unfolding layout4 layout4At
 layout4-least s w e =
     let r = whole-read s (layout4At s) w e in
-    let f = ran _ _ w (length s) r in
-    let t = passed _ _ 1 w (length s) (f .rest) in
-    let b = ran _ _ w (length s) (t .chosen) in
+    let f = then-inv _ _ w (length s) r in
+    let t = pick-inv _ _ 1 w (length s) (f .rest) in
+    let b = then-inv _ _ w (length s) (t .chosen) in
     let i = item-accepted _ (f .next) (b .item) (b .next) (b .first) in
     let fs = frame-size s 0 (f .item) (f .next) (f .first) in
     let room : f .next + f .item .size + padding (f .item .size) ≤ length s = leb-true _ _ (t .test) in
@@ -158,41 +158,41 @@ layout4-least s w e =
 error-size : (s : List ℕ) (at : ℕ) (v : ErrorItem) (p : ℕ) → errorAt s at ≡ ok v p → p ≡ at + 24
 unfolding errorAt
 error-size s at v p h =
-    let d = ran _ _ v p h in
-    let u = ran _ _ v p (d .rest) in
-    let o = ran _ _ v p (u .rest) in
-    let t = passed _ _ 27 v p (o .rest) in
+    let d = then-inv _ _ v p h in
+    let u = then-inv _ _ v p (d .rest) in
+    let o = then-inv _ _ v p (u .rest) in
+    let t = pick-inv _ _ 27 v p (o .rest) in
     let db = bytes-read 16 s at (d .item) (d .next) (d .first) in
     let un = number-read 4 s (d .next) (u .item) (u .next) (u .first) in
     let on = number-read 4 s (u .next) (o .item) (o .next) (o .first) in
-    let e : o .next ≡ p = same-place (t .chosen) in
+    let e : o .next ≡ p = same-offset (t .chosen) in
     omega (arith, db .end, un .end, on .end, e)
 
-head-size : (s : List ℕ) (at : ℕ) (v : ReportHead) (p : ℕ) → headAt s at ≡ ok v p → (p ≡ at + 36) × (v .errors ≤ 16)
-unfolding headAt
+head-size : (s : List ℕ) (at : ℕ) (v : ReportHead) (p : ℕ) → reportHeadAt s at ≡ ok v p → (p ≡ at + 36) × (v .errors ≤ 16)
+unfolding reportHeadAt
 head-size s at v p h =
-    let o = ran _ _ v p h in
-    let l = ran _ _ v p (o .rest) in
-    let r = ran _ _ v p (l .rest) in
-    let t = ran _ _ v p (r .rest) in
-    let n = ran _ _ v p (t .rest) in
+    let o = then-inv _ _ v p h in
+    let l = then-inv _ _ v p (o .rest) in
+    let r = then-inv _ _ v p (l .rest) in
+    let t = then-inv _ _ v p (r .rest) in
+    let n = then-inv _ _ v p (t .rest) in
     let on = number-read 8 s at (o .item) (o .next) (o .first) in
     let ln = number-read 8 s (o .next) (l .item) (l .next) (l .first) in
     let i = item-accepted _ (l .next) (r .item) (r .next) (r .first) in
     let tb = bytes-read 16 s (r .next) (t .item) (t .next) (t .first) in
     let nc = count-read 1 16 s (t .next) (n .item) (n .next) (n .first) in
-    let e : n .next ≡ p = same-place (n .rest) in
+    let e : n .next ≡ p = same-offset (n .rest) in
     let g : n .item ≡ v .errors = ap (λ (x : ReportHead). x .errors) (same-value (n .rest)) in
     (omega (arith, on .end, ln .end, i .1, tb .end, nc .number .end, e), omega (arith, nc .high, g))
 
 report-size : (s : List ℕ) (at : ℕ) (v : Report) (p : ℕ) → reportAt s at ≡ ok v p → (p ≡ at + 36 + v .head .errors * 24) × (v .head .errors ≤ 16)
 unfolding reportAt
 report-size s at v p h =
-    let d = ran _ _ v p h in
-    let es = ran _ _ v p (d .rest) in
+    let d = then-inv _ _ v p h in
+    let es = then-inv _ _ v p (d .rest) in
     let hs = head-size s at (d .item) (d .next) (d .first) in
     let n = many-exact errorAt 24 s (error-size s) (d .item .errors) (d .next) (es .item) (es .next) (es .first) in
-    let e : es .next ≡ p = same-place (es .rest) in
+    let e : es .next ≡ p = same-offset (es .rest) in
     let g : d .item .errors ≡ v .head .errors = ap (λ (x : Report). x .head .errors) (same-value (es .rest)) in
     (omega (arith, hs .0, n, e, g), omega (arith, hs .1, g))
 
@@ -201,15 +201,15 @@ reports-size : (n : ℕ) (s : List ℕ) (at : ℕ) (rs : List Report) (p : ℕ) 
     → (p ≡ at + 36 * length rs + 24 * counts (map (λ r. r .head) rs)) × (counts (map (λ r. r .head) rs) ≤ 16 * length rs)
 unfolding manyAt counts
 reports-size zero s at rs p h =
-    let e : at ≡ p = same-place h in
+    let e : at ≡ p = same-offset h in
     let g : [] ≡ rs = same-value h in
     rw (← g) (omega (arith, e), omega arith)
 reports-size (suc n) s at rs p h =
-    let r = ran _ _ rs p h in
-    let t = ran _ _ rs p (r .rest) in
+    let r = then-inv _ _ rs p h in
+    let t = then-inv _ _ rs p (r .rest) in
     let a = report-size s at (r .item) (r .next) (r .first) in
     let b = reports-size n s (r .next) (t .item) (t .next) (t .first) in
-    let e : t .next ≡ p = same-place (t .rest) in
+    let e : t .next ≡ p = same-offset (t .rest) in
     let g : r .item ∷ t .item ≡ rs = same-value (t .rest) in
     rw (← g) (omega (arith, a .0, b .0, e), omega (arith, a .1, b .1))
 
@@ -221,14 +221,14 @@ pub report-body-size : (s : List ℕ) (rs : List Report) → reportBody s ≡ ac
 unfolding reportBody reportsAt
 report-body-size s rs h =
     let w = whole-read s _ rs h in
-    let m = ran _ _ rs (length s) w in
-    let n = ran _ _ (m .item) (m .next) (m .first) in
-    let z = ran _ _ rs (length s) (m .rest) in
+    let m = then-inv _ _ rs (length s) w in
+    let n = then-inv _ _ (m .item) (m .next) (m .first) in
+    let z = then-inv _ _ rs (length s) (m .rest) in
     let nc = count-read 0 8 s 0 (n .item) (n .next) (n .first) in
     let k : length (m .item) ≡ n .item = many-length reportAt (n .item) s (n .next) (m .item) (m .next) (n .rest) in
     let b = reports-size (n .item) s (n .next) (m .item) (m .next) (n .rest) in
     let zc = count-read 0 0 s (m .next) (z .item) (z .next) (z .first) in
-    let e : z .next ≡ length s = same-place (z .rest) in
+    let e : z .next ≡ length s = same-offset (z .rest) in
     let g : m .item ≡ rs = same-value (z .rest) in
     rw (← g)
     (record {

@@ -17,13 +17,13 @@ use Rattle.segments.specs.declared.Segment.{Segment}
 use Rattle.segments.specs.Segments.{Mode, READ, RW, blank, emptyTable, listIn, rightAt}
 use Rattle.segments.proofs.Canon.{Ord, at-in, at-past, canon-ord}
 use Rattle.store.specs.Store.{Body, bodyIn, slotAt}
-use Rattle.reference.specs.Model.{ByteRight, none, granted, recalled, Deed, grants, returns, recalls, revokes, Event, Order, afterAt, covers, rightAfter}
-use Rattle.reference.specs.Claim.{Fits, acceptedOf, answered, keptLeft, rightGiven, rightIn, storeLeft}
-use Rattle.reference.proofs.SoundParts.{listed, sounds}
-use Rattle.reference.proofs.FromSound.{in-order-canon}
-use Rattle.events.specs.Events.{called}
-use Rattle.agreement.proofs.Demand.{calls-meet-demand-3}
-use Rattle.agreement.proofs.Unchanged.{sound-after}
+use Rattle.model.specs.Model.{ByteRight, none, granted, recalled, Action, grants, returns, recalls, revokes, Event, Command, afterAt, covers, rightAfter}
+use Rattle.model.specs.Claim.{Fits, acceptedOf, answered, keptLeft, rightGiven, rightIn, storeLeft}
+use Rattle.soundness.proofs.SoundParts.{listed, sounds}
+use Rattle.soundness.proofs.FromSound.{in-order-canon}
+use Rattle.events.specs.Events.{eventResult}
+use Rattle.refinement.proofs.Demand.{calls-meet-demand-3}
+use Rattle.refinement.proofs.Unchanged.{sound-after}
 use Rattle.route.specs.Routes.{iomodeFor, routed}
 use Rattle.route.specs.Rights.{servedByRights, servedOf}
 use Rattle.route.specs.declared.piece.Piece.{Piece}
@@ -60,13 +60,13 @@ place-shows lo (s ∷ l) (suc k) x o h a b =
 
 module _ (es : List Event) (f : Each Fits es) where
   abbrev T : Table
-  T = keptLeft called es emptyTable (replicate 32768 0)
+  T = keptLeft eventResult es emptyTable (replicate 32768 0)
 
   abbrev S : List ℕ
-  S = storeLeft called es emptyTable (replicate 32768 0)
+  S = storeLeft eventResult es emptyTable (replicate 32768 0)
 
-  abbrev os : List Order
-  os = acceptedOf es (answered called es emptyTable (replicate 32768 0))
+  abbrev os : List Command
+  os = acceptedOf es (answered eventResult es emptyTable (replicate 32768 0))
 
   pub io-by-events : (write : Bool) (offset len : ℕ) → given (routed write T S offset len) (λ p. accepted (servedOf S p))
       ≡ given (requestLast offset len) (λ last. servedByRights write (rightGiven os READ offset none) (rightGiven os RW offset none))
@@ -94,16 +94,16 @@ module _ (es : List Event) (f : Each Fits es) where
       let r = by-parts write T S offset len p e in
       let n = in-file offset len (r .last) (r .range) in
       let w = sounds T S (sound-after es f) in
-      let o = canon-ord 0 None (listIn T (h .mode)) (in-order-canon (listIn T (h .mode)) (listed T S w (h .mode) .order)) in (
+      let o = canon-ord 0 None (listIn T (h .mode)) (in-order-canon (listIn T (h .mode)) (listed T S w (h .mode) .rising)) in (
         h .mode,
         h .iomode,
         h .in-rw,
         λ x a b.
-            let i : x ≤ getD (listIn T (h .mode)) (h .place) blank .last = omega (arith, h .last, q .0, b) in
+            let i : x ≤ getD (listIn T (h .mode)) (h .index) blank .last = omega (arith, h .last, q .0, b) in
             let k : x ≤ lastByte = omega (arith, n, q .1, b) in
-            let j : getD (listIn T (h .mode)) (h .place) blank .first ≤ x = omega (arith, h .first, a) in
+            let j : getD (listIn T (h .mode)) (h .index) blank .first ≤ x = omega (arith, h .first, a) in
             sym (calls-meet-demand-3 es f .rights (h .mode) x k)
-            ∙ granted-under T S (sound-after es f) (h .mode) x (p .slot) (place-shows 0 (listIn T (h .mode)) (h .place) x o (h .placed) j i ∙ h .right),
+            ∙ granted-under T S (sound-after es f) (h .mode) x (p .slot) (place-shows 0 (listIn T (h .mode)) (h .index) x o (h .in-list) j i ∙ h .right),
       )
 
 -- ---- no write after a recall
@@ -123,7 +123,7 @@ after-recall (granted b) = recalled-granted b
 after-recall (recalled b) = recalled-granted b
 
 -- an accepted event that is no grant of the byte leaves it so
-after-other : (d : Deed) (r : ByteRight) (b : Bool) → (isGrant d && b) ≡ false → NotGranted r → NotGranted (pick b (rightAfter d r) r)
+after-other : (d : Action) (r : ByteRight) (b : Bool) → (isGrant d && b) ≡ false → NotGranted r → NotGranted (pick b (rightAfter d r) r)
 unfolding pick
 after-other d r false h n = n
 after-other (grants b) r true h n = absurd (false≢true (sym h))
@@ -132,23 +132,23 @@ after-other recalls r true h n = after-recall r
 after-other revokes r true h n = none-granted
 
 module _ (m : Mode) (x : ℕ) where
-  later-events : (os : List Order) (r : ByteRight) → Each (λ o. grantsByte m x o ≡ false) os → NotGranted r → NotGranted (rightGiven os m x r)
+  later-events : (os : List Command) (r : ByteRight) → Each (λ o. grantsByte m x o ≡ false) os → NotGranted r → NotGranted (rightGiven os m x r)
   unfolding rightGiven afterAt
   later-events [] r h n = n
-  later-events (o ∷ os) r h n = later-events os (afterAt o m x r) (h .1) (after-other (o .deed) r (covers o m x) (h .0) n)
+  later-events (o ∷ os) r h n = later-events os (afterAt o m x r) (h .1) (after-other (o .action) r (covers o m x) (h .0) n)
 
-  recalled-since : (before : List Order) (o : Order) (after : List Order) (r : ByteRight) → o .deed ≡ recalls → covers o m x ≡ true
+  recalled-since : (before : List Command) (o : Command) (after : List Command) (r : ByteRight) → o .action ≡ recalls → covers o m x ≡ true
       → Each (λ o. grantsByte m x o ≡ false) after → NotGranted (rightGiven (before ++ (o ∷ after)) m x r)
   unfolding rightGiven afterAt pick
   recalled-since [] o after r d c h = later-events after (afterAt o m x r) h (rw (c, d) (after-recall r))
   recalled-since (p ∷ before) o after r d c h = recalled-since before o after (afterAt p m x r) d c h
 
-pub write-after-recall : (es : List Event) → Each Fits es → (before : List Order) (o : Order) (after : List Order)
-    → acceptedOf es (answered called es emptyTable (replicate 32768 0)) ≡ before ++ (o ∷ after) → o .deed ≡ recalls
+pub write-after-recall : (es : List Event) → Each Fits es → (before : List Command) (o : Command) (after : List Command)
+    → acceptedOf es (answered eventResult es emptyTable (replicate 32768 0)) ≡ before ++ (o ∷ after) → o .action ≡ recalls
     → (x : ℕ) → covers o RW x ≡ true → Each (λ o. grantsByte RW x o ≡ false) after → (offset len : ℕ) (p : Piece)
-    → routed true (keptLeft called es emptyTable (replicate 32768 0)) (storeLeft called es emptyTable (replicate 32768 0)) offset len ≡ accepted p
+    → routed true (keptLeft eventResult es emptyTable (replicate 32768 0)) (storeLeft eventResult es emptyTable (replicate 32768 0)) offset len ≡ accepted p
     → offset ≤ x → x < offset + p .length → ⊥
 write-after-recall es f before o after e d x c h offset len p k a b =
     let w = bytes-by-events es f true offset len p k in
     let r : rightGiven (os es f) RW x none ≡ _ = ap (λ (m : Mode). rightGiven (os es f) m x none) (sym (w .2 refl)) ∙ w .3 x a b in
-    recalled-since RW x before o after none d c h _ (ap (λ (l : List Order). rightGiven l RW x none) (sym e) ∙ r)
+    recalled-since RW x before o after none d c h _ (ap (λ (l : List Command). rightGiven l RW x none) (sym e) ∙ r)

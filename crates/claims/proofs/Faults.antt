@@ -9,8 +9,8 @@ use lib.Dec.{eqb}
 use lib.ListN.{length}
 use Rattle.base.specs.Answer.{Answer, accepted, refused, given, pick}
 use Rattle.base.proofs.AnswerLaws.{both, never-refused, same-refusal}
-use Rattle.numbers.specs.Numbers.{allZero}
-use Rattle.xdr.specs.Res.{Res, ok, no, then, manyAt, asItem, whole}
+use Rattle.bytes.specs.Numbers.{allZero}
+use Rattle.xdr.specs.Parsed.{Parsed, ok, fault, then, manyAt, asItem, whole}
 use Rattle.xdr.specs.Items.{boolAt, bytesAt, countAt, numAt, opaqueAt}
 use Rattle.claims.specs.Statements.{isOneOf}
 
@@ -32,24 +32,24 @@ in-wider (k ∷ ns) ms i n h = go (eqb n k) refl h (in-wider ns ms (both (isOneO
 -- ---- what refuses only with the numbers of a list
 
 -- an item
-pub record FaultsIn {A : Type 0} (ns : List ℕ) (x : Res A) : Type 0 where
-  pub fault : (n : ℕ) → x ≡ no n → isOneOf n ns ≡ true
+pub record FaultsIn {A : Type 0} (ns : List ℕ) (x : Parsed A) : Type 0 where
+  pub fault : (n : ℕ) → x ≡ fault n → isOneOf n ns ≡ true
 
 -- an answer
 pub record RefusalsIn {A : Type 0} (ns : List ℕ) (x : Answer A) : Type 0 where
   pub refusal : (n : ℕ) → x ≡ refused n → isOneOf n ns ≡ true
 
-no-fault : {A B : Type 0} (a : A) (p n : ℕ) → ok a p ≡ no n → B
+no-fault : {A B : Type 0} (a : A) (p n : ℕ) → ok a p ≡ fault n → B
 no-fault a p n e = let z : _≡_ {A = ℕ} 0 1 = cc in absurd (omega arith)
 
-same-fault : {A : Type 0} (n k : ℕ) → _≡_ {A = Res A} (no n) (no k) → n ≡ k
+same-fault : {A : Type 0} (n k : ℕ) → _≡_ {A = Parsed A} (fault n) (fault k) → n ≡ k
 same-fault n k e = cc
 
 module _ {A : Type 0} {ns : List ℕ} where
   pub read : {a : A} {p : ℕ} → FaultsIn ns (ok a p)
   read {a = a} {p = p} = record { fault = λ n e. no-fault a p n e }
 
-  stops : (n : ℕ) → isOneOf n ns ≡ true → FaultsIn {A = A} ns (no n)
+  stops : (n : ℕ) → isOneOf n ns ≡ true → FaultsIn {A = A} ns (fault n)
   stops n h = record { fault = λ k e. rw (← same-fault n k e) h }
 
   pub accepts : {a : A} → RefusalsIn ns (accepted a)
@@ -58,7 +58,7 @@ module _ {A : Type 0} {ns : List ℕ} where
   pub refuses : (n : ℕ) → isOneOf n ns ≡ true → RefusalsIn {A = A} ns (refused n)
   refuses n h = record { refusal = λ k e. rw (← same-refusal n k e) h }
 
-  pub wider : {ms : List ℕ} {x : Res A} → FaultsIn ns x → allIn ns ms ≡ true → FaultsIn ms x
+  pub wider : {ms : List ℕ} {x : Parsed A} → FaultsIn ns x → allIn ns ms ≡ true → FaultsIn ms x
   wider {ms = ms} h i = record { fault = λ n e. in-wider ns ms i n (h .fault n e) }
 
   pub wider-answer : {ms : List ℕ} {x : Answer A} → RefusalsIn ns x → allIn ns ms ≡ true → RefusalsIn ms x
@@ -66,18 +66,18 @@ module _ {A : Type 0} {ns : List ℕ} where
 
 -- ---- one after the other
 
-then-faults : {A B : Type 0} (ns : List ℕ) (x : Res A) (f : A → ℕ → Res B) → FaultsIn ns x → ((a : A) (p : ℕ) → FaultsIn ns (f a p))
+then-faults : {A B : Type 0} (ns : List ℕ) (x : Parsed A) (f : A → ℕ → Parsed B) → FaultsIn ns x → ((a : A) (p : ℕ) → FaultsIn ns (f a p))
     → FaultsIn ns (then x f)
 unfolding then
 then-faults ns (ok a p) f h k = k a p
-then-faults ns (no n) f h k = stops n (h .fault n refl)
+then-faults ns (fault n) f h k = stops n (h .fault n refl)
 
 -- an item with a list of its own, and what follows it
-pub run : {A B : Type 0} {ns ms : List ℕ} {x : Res A} {f : A → ℕ → Res B} → FaultsIn ns x → allIn ns ms ≡ true
+pub run : {A B : Type 0} {ns ms : List ℕ} {x : Parsed A} {f : A → ℕ → Parsed B} → FaultsIn ns x → allIn ns ms ≡ true
     → ((a : A) (p : ℕ) → FaultsIn ms (f a p)) → FaultsIn ms (then x f)
 run {ms = ms} {x = x} {f = f} h i k = then-faults ms x f (wider h i) k
 
-pub many-faults : {A : Type 0} {ns : List ℕ} {item : List ℕ → ℕ → Res A} → ((s : List ℕ) (at : ℕ) → FaultsIn ns (item s at))
+pub many-faults : {A : Type 0} {ns : List ℕ} {item : List ℕ → ℕ → Parsed A} → ((s : List ℕ) (at : ℕ) → FaultsIn ns (item s at))
     → (n : ℕ) (s : List ℕ) (at : ℕ) → FaultsIn ns (manyAt item n s at)
 unfolding manyAt
 many-faults h zero s at = read
@@ -97,13 +97,13 @@ asked {ms = ms} {x = x} {f = f} h i k = given-refusals ms x f (wider-answer h i)
 -- ---- by a test; the number is what comes where it fails
 
 module _ {A : Type 0} {ns : List ℕ} where
-  pub tested : {x : Res A} (b : Bool) (n : ℕ) → FaultsIn ns x → isOneOf n ns ≡ true → FaultsIn ns (pick b x (no n))
+  pub tested : {x : Parsed A} (b : Bool) (n : ℕ) → FaultsIn ns x → isOneOf n ns ≡ true → FaultsIn ns (pick b x (fault n))
   unfolding pick
   tested true n h i = h
   tested false n h i = stops n i
 
   -- a test that holds
-  passed : {x : Res A} (y : Res A) → FaultsIn ns x → FaultsIn ns (pick true x y)
+  passed : {x : Parsed A} (y : Parsed A) → FaultsIn ns x → FaultsIn ns (pick true x y)
   unfolding pick
   passed y h = h
 
@@ -124,10 +124,10 @@ module _ {A : Type 0} {ns : List ℕ} where
   inside-faults (accepted a) at h = read
   inside-faults (refused n) at h = stops n (h .refusal n refl)
 
-  pub whole-refusals : (s : List ℕ) (x : Res A) → FaultsIn ns x → isOneOf 2 ns ≡ true → RefusalsIn ns (whole s x)
+  pub whole-refusals : (s : List ℕ) (x : Parsed A) → FaultsIn ns x → isOneOf 2 ns ≡ true → RefusalsIn ns (whole s x)
   unfolding whole
   whole-refusals s (ok a at) h i = tested-answer (eqb at (length s)) 2 accepts i
-  whole-refusals s (no n) h i = refuses n (h .fault n refl)
+  whole-refusals s (fault n) h i = refuses n (h .fault n refl)
 
 -- ---- the items of XDR
 

@@ -1,13 +1,15 @@
-// The theorems that the documents cite, each as the `ensures` of an empty function, so that it stands before a reader's eyes and the gate fails if
-// it goes. A statement needs only the definitions that it names.
+// The theorems that the documents cite, each as the `ensures` of an empty function, so that it stands before a
+// reader's eyes and the gate fails if it goes. A statement needs only the definitions that it names.
 //
-// The three demands come first, then what follows from each. Of demand 1 "every call ends with an answer" and of demand 2 the first sentence are the
-// contracts themselves: no public function has a `requires`, each returns, and its one `ensures` is an equation with a definition in specs/, which
-// quotes the scope paper. `layoutBody` is what `layout::read_layout` answers, `layout4` `layout4::read_layout4`, `deviceBody` `device::read_device`,
-// `boundTo` `binding::bind`, `reportBody` `report::read_reports`, `reportsWritten` both writers of reports, `called` `events::apply`, `routed`
-// `route::locate`, `calledOn` the exported events, `routedOn` the exported lookups.
+// The three demands come first, then what follows from each. Of demand 1 "every call ends with an answer" and of
+// demand 2 the first sentence are the contracts themselves: no public function has a `requires`, each returns, and
+// its one `ensures` is an equation with a definition in specs/, which quotes the scope paper. `layoutBody` is what
+// `layout::read_layout` answers, `layout4` `layout4::read_layout4`, `deviceBody` `device::read_device`, `boundTo`
+// `binding::bind`, `reportBody` `report::read_reports`, `reportsWritten` both writers of reports, `eventResult`
+// `events::apply`, `routed` `route::locate`, `eventOnRecord` the exported events, `routedOn` the exported lookups.
 //
-// `accepted v` is an answer with its value, `refused n` a refusal with the scope paper's number, and `n ≡ 0 → ⊥` says that n is not 0.
+// `accepted v` is an answer with its value, `refused n` a refusal with the scope paper's number, and `n ≡ 0 → ⊥` says
+// that n is not 0.
 ghost use Prim.Native.Nat.{ℕ, _+_, _-_, _*_, _/_, _%_, _^_, _<_, _≤_};
 ghost use mathlib.Core.Path.{_≡_};
 ghost use mathlib.Core.Logic.{_⊎_};
@@ -17,17 +19,17 @@ ghost use lib.ListN.{getD, length, replicate, take};
 ghost use Rattle.base.specs.Limits.{errorSize, mostServers, reportHeadSize};
 ghost use Rattle.base.specs.Answer.{accepted, refused, given};
 ghost use Rattle.base.specs.Bits.{bit};
-ghost use Rattle.numbers.specs.Numbers.{AllBytes, beBytes, beValue};
+ghost use Rattle.bytes.specs.Numbers.{AllBytes, beBytes, beValue};
 ghost use Rattle.server.specs.declared.item.Server.{Server};
 ghost use Rattle.layout.specs.Layouts.{Layout, layoutBody, startAt, startsOf};
-ghost use Rattle.layout4.specs.Layout4s.{Whole, layout4};
+ghost use Rattle.layout4.specs.Layout4s.{WholeLayout, layout4};
 ghost use Rattle.device.specs.Bodies.{deviceBody};
 ghost use Rattle.binding.specs.Bindings.{boundTo};
 ghost use Rattle.report.specs.Reports.{Report, reportBody};
 ghost use Rattle.report.specs.Answers.{headsOf};
 ghost use Rattle.report.specs.declared.ReportHead.{ReportHead};
-ghost use Rattle.report_write.specs.Places.{HeadFits, RecordFits, placed, recordsIn};
-ghost use Rattle.report_write.specs.Writing.{ErrorRecord, counts, outputAfter, reportsWritten};
+ghost use Rattle.report.specs.ReportOffsets.{HeadFits, EntryFits, reportsFrom, entriesIn};
+ghost use Rattle.report.specs.Writing.{ErrorEntry, counts, outputAfter, reportsWritten};
 ghost use Rattle.base.specs.Lists.{Each};
 ghost use Rattle.base.specs.Ranges.{lastByte, requestLast, toTheEnd};
 ghost use Rattle.segments.specs.declared.Table.{Table};
@@ -38,19 +40,20 @@ ghost use Rattle.route.specs.Mirrors.{efficiencyOf};
 ghost use Rattle.route.specs.Rights.{servedByRights, servedOf};
 ghost use Rattle.route.specs.Routes.{iomodeFor, layoutIn, routed};
 ghost use Rattle.store.specs.Store.{bodyIn, slotAt, zeroStore};
-ghost use Rattle.reference.specs.AnyTable.{EndsBy, OfModel, Typed, leftBy, modelOf};
-ghost use Rattle.reference.specs.Claim.{Calls, Demand3, Fits, acceptedOf, answered, keptLeft, rightGiven, storeLeft};
-ghost use Rattle.reference.specs.Cases as cases;
-ghost use Rattle.reference.specs.Cases.{bodyOf, grantBytes};
-ghost use Rattle.reference.specs.StandIns.{changesNothing, firstOnly, refusesAll};
-ghost use Rattle.reference.specs.Sound.{isAccepted, sound};
-ghost use Rattle.reference.specs.Model.{Event, Grant, Order, Recall, Return, Revoke, byOwn, covers, granted, none, recalls, run, start, tableOf};
-ghost use Rattle.events.specs.Events.{called};
-ghost use Rattle.examples.specs.Examples.{Holds, examples};
-ghost use Rattle.record.specs.Records.{recordOf, tableIn};
-ghost use Rattle.record.specs.declared.types.TableRecord.{TableRecord};
-ghost use Rattle.driver.specs.Calls.{calledOn, emptyRecord, locateResult, recorded, routedOn, tableOfRecord};
-ghost use Rattle.claims.specs.Statements.{BestOf, PieceStands, ServerStands, grantsByte, isOneOf};
+ghost use Rattle.model.specs.AnyTable.{EndsBy, OfModel, Typed, leftBy, modelOf};
+ghost use Rattle.model.specs.Claim.{Calls, Demand3, Fits, acceptedOf, answered, keptLeft, rightGiven, storeLeft};
+ghost use Rattle.model.specs.Cases as cases;
+ghost use Rattle.model.specs.Cases.{bodyOf, grantBytes};
+ghost use Rattle.model.specs.StandIns.{changesNothing, firstOnly, refusesAll};
+ghost use Rattle.base.specs.Answer.{isAccepted};
+ghost use Rattle.soundness.specs.Sound.{sound};
+ghost use Rattle.model.specs.Model.{Event, Grant, Command, Recall, Return, Revoke, rightsAndSlots, covers, granted, none, recalls, run, start, tableOf};
+ghost use Rattle.events.specs.Events.{eventResult};
+ghost use Rattle.examples.specs.Examples.{ExampleHolds, examples};
+ghost use Rattle.abi_table.specs.TableRecords.{recordOf, tableIn};
+ghost use Rattle.abi_table.specs.declared.types.TableRecord.{TableRecord};
+ghost use Rattle.basilothyn.specs.Calls.{eventOnRecord, emptyRecord, locateResult, recorded, routedOn, tableOfRecord};
+ghost use Rattle.claims.specs.Statements.{BestOf, PieceLies, ServerAt, grantsByte, isOneOf};
 
 // ==== The three demands
 
@@ -59,35 +62,37 @@ ghost use Rattle.claims.specs.Statements.{BestOf, PieceStands, ServerSta
 // Demand 1 of the events: a refused one leaves table and store as they were, whatever they are.
 pub fn refused_events_change_nothing()
     ensures { λ r. ⌜ ((e : Event) (t : Table) (store : List ℕ)
-        → (called e t store .answer ≡ 0 → ⊥) → (called e t store .kept ≡ t) × (called e t store .store ≡ store)) ⌝ }
+        → (eventResult e t store .answer ≡ 0 → ⊥) → (eventResult e t store .kept ≡ t) × (eventResult e t store .store ≡ store)) ⌝ }
 {}
 
-// Demand 1 of the exported events: a refused one gives back the record that it was handed, whatever that is, and leaves the store as it was.
+// Demand 1 of the exported events: a refused one gives back the record that it was handed, whatever that is, and
+// leaves the store as it was.
 pub fn refused_calls_keep_records()
     ensures { λ r. ⌜ ((e : Event) (given : TableRecord) (store : List ℕ)
-        → (calledOn e given store .answer ≡ 0 → ⊥)
-        → (calledOn e given store .kept ≡ given) × (calledOn e given store .store ≡ store)) ⌝ }
+        → (eventOnRecord e given store .answer ≡ 0 → ⊥)
+        → (eventOnRecord e given store .kept ≡ given) × (eventOnRecord e given store .store ≡ store)) ⌝ }
 {}
 
 // Demand 1 of the writer: a refused body leaves the output as it was.
 pub fn refused_reports_keep_the_output()
-    ensures { λ r. ⌜ ((count : ℕ) (heads : List ReportHead) (errors : List ErrorRecord) (out : List ℕ) (n : ℕ)
+    ensures { λ r. ⌜ ((count : ℕ) (heads : List ReportHead) (errors : List ErrorEntry) (out : List ℕ) (n : ℕ)
         → reportsWritten count heads errors (length out) ≡ refused n
         → outputAfter out (reportsWritten count heads errors (length out)) ≡ out) ⌝ }
 {}
 
-// "Nothing else is refused", of bodies read and written: the numbers that each can be refused with. 0, which stands for accepted, is none of them.
+// "Nothing else is refused", of bodies read and written: the numbers that each can be refused with. 0, which stands
+// for accepted, is none of them.
 pub fn bodies_refuse_as_listed()
     ensures { λ r. ⌜ ((s : List ℕ) (n : ℕ) → layoutBody s ≡ refused n → isOneOf n (1 ∷ 2 ∷ 6 ∷ 8 ∷ 9 ∷ 10 ∷ 11 ∷ []) ≡ true)
         × ((s : List ℕ) (n : ℕ) → layout4 s ≡ refused n → isOneOf n (1 ∷ 2 ∷ 3 ∷ 4 ∷ 5 ∷ 6 ∷ 8 ∷ 9 ∷ 10 ∷ 11 ∷ []) ≡ true)
         × ((s : List ℕ) (n : ℕ) → deviceBody s ≡ refused n → isOneOf n (1 ∷ 2 ∷ 6 ∷ 7 ∷ 8 ∷ 12 ∷ []) ≡ true)
         × ((s : List ℕ) (n : ℕ) → reportBody s ≡ refused n → isOneOf n (1 ∷ 2 ∷ 5 ∷ 8 ∷ 27 ∷ []) ≡ true)
-        × ((count : ℕ) (heads : List ReportHead) (errors : List ErrorRecord) (room n : ℕ) → reportsWritten count heads errors room ≡ refused n
+        × ((count : ℕ) (heads : List ReportHead) (errors : List ErrorEntry) (room n : ℕ) → reportsWritten count heads errors room ≡ refused n
         → isOneOf n (5 ∷ 8 ∷ 26 ∷ 27 ∷ []) ≡ true) ⌝ }
 {}
 
-// "Nothing else is refused": a binding refuses with the number of the layout body, of the device body, or with 16, 8, 13, 14 or 15. It reads the
-// server and the filehandle again, and that never fails.
+// "Nothing else is refused": a binding refuses with the number of the layout body, of the device body, or with 16, 8,
+// 13, 14 or 15. It reads the server and the filehandle again, and that never fails.
 pub fn bindings_refuse_as_listed()
     ensures { λ r. ⌜ ((layout : List ℕ) (mirror stripe : ℕ) (device id : List ℕ) (supported n : ℕ)
         → boundTo layout mirror stripe device id supported ≡ refused n
@@ -95,32 +100,34 @@ pub fn bindings_refuse_as_listed()
         ⊎ ((n ≡ 16) ⊎ ((n ≡ 8) ⊎ ((n ≡ 13) ⊎ ((n ≡ 14) ⊎ (n ≡ 15))))))) ⌝ }
 {}
 
-// "Nothing else is refused", of events, on whatever table and store: the numbers that each can be answered, 0 for accepted. (A revoke on a table of
-// 64-bit numbers: it never meets 23.)
+// "Nothing else is refused", of events, on whatever table and store: the numbers that each can be answered, 0 for
+// accepted. (A revoke on a table of 64-bit numbers: it never meets 23.)
 pub fn events_refuse_as_listed()
-    ensures { λ r. ⌜ ((t : Table) (store bytes : List ℕ) → isOneOf (called (Grant bytes) t store .answer)
+    ensures { λ r. ⌜ ((t : Table) (store bytes : List ℕ) → isOneOf (eventResult (Grant bytes) t store .answer)
         (0 ∷ 20 ∷ 1 ∷ 2 ∷ 3 ∷ 4 ∷ 5 ∷ 6 ∷ 8 ∷ 9 ∷ 10 ∷ 11 ∷ 21 ∷ 22 ∷ 24 ∷ 23 ∷ []) ≡ true)
         × ((t : Table) (store : List ℕ) (offset len number : ℕ)
-        → isOneOf (called (Return offset len number) t store .answer) (0 ∷ 20 ∷ 5 ∷ 3 ∷ 23 ∷ []) ≡ true)
+        → isOneOf (eventResult (Return offset len number) t store .answer) (0 ∷ 20 ∷ 5 ∷ 3 ∷ 23 ∷ []) ≡ true)
         × ((t : Table) (store : List ℕ) (offset len number : ℕ)
-        → isOneOf (called (Recall offset len number) t store .answer) (0 ∷ 20 ∷ 5 ∷ 3 ∷ 25 ∷ 23 ∷ []) ≡ true)
+        → isOneOf (eventResult (Recall offset len number) t store .answer) (0 ∷ 20 ∷ 5 ∷ 3 ∷ 25 ∷ 23 ∷ []) ≡ true)
         × ((t : Table) (store : List ℕ) → Each (EndsBy lastByte) (listOf (t .read)) → Each (EndsBy lastByte) (listOf (t .rw))
-        → isOneOf (called Revoke t store .answer) (0 ∷ 20 ∷ []) ≡ true) ⌝ }
+        → isOneOf (eventResult Revoke t store .answer) (0 ∷ 20 ∷ []) ≡ true) ⌝ }
 {}
 
-// 20: "table or shelf is unsound", first in the order of events and of requests, whatever else is wrong; a record that is no table is unsound.
+// 20: "table or shelf is unsound", first in the order of events and of requests, whatever else is wrong; a record
+// that is no table is unsound.
 pub fn unsound_is_20()
     ensures { λ r. ⌜ ((e : Event) (t : Table) (store : List ℕ) → sound t store ≡ false
-        → called e t store ≡ record { answer = 20; kept = t; store = store })
+        → eventResult e t store ≡ record { answer = 20; kept = t; store = store })
         × ((write : Bool) (t : Table) (store : List ℕ) (offset len : ℕ) → sound t store ≡ false
         → routed write t store offset len ≡ refused 20)
         × ((e : Event) (given : TableRecord) (store : List ℕ) (n : ℕ) → tableIn given ≡ refused n
-        → calledOn e given store ≡ record { answer = 20; kept = given; store = store })
+        → eventOnRecord e given store ≡ record { answer = 20; kept = given; store = store })
         × ((write : Bool) (given : TableRecord) (store : List ℕ) (offset len n : ℕ) → tableIn given ≡ refused n
         → routedOn write given store offset len ≡ locateResult (refused 20)) ⌝ }
 {}
 
-// "Nothing else is refused": an I/O request is refused with 20, 5 or 17. It reads the layout body of a granted segment, and that never fails.
+// "Nothing else is refused": an I/O request is refused with 20, 5 or 17. It reads the layout body of a granted
+// segment, and that never fails.
 pub fn requests_refuse_as_listed()
     ensures { λ r. ⌜ ((write : Bool) (t : Table) (store : List ℕ) (offset len n : ℕ) → routed write t store offset len ≡ refused n
         → (n ≡ 20) ⊎ (n ≡ 5) ⊎ (n ≡ 17)) ⌝ }
@@ -128,9 +135,10 @@ pub fn requests_refuse_as_listed()
 
 // ---- Demand 2: each offset goes to its stripe and server
 
-// "Each offset goes to the stripe and server of the sparse mapping, at full 64 bits": each byte x of an answered piece has the stripe (x div unit)
-// mod servers of the layout body in the answered slot, which is the stripe answered; with one server it is 0. The stripe is below the server count
-// and the mirrors are some of the layout's, so that at (mirror, stripe) stands a data server (`starts_are_servers`).
+// "Each offset goes to the stripe and server of the sparse mapping, at full 64 bits": each byte x of an answered
+// piece has the stripe (x div unit) mod servers of the layout body in the answered slot, which is the stripe
+// answered; with one server it is 0. The stripe is below the server count and the mirrors are some of the layout's,
+// so that at (mirror, stripe) stands a data server (`starts_are_servers`).
 pub fn pieces_go_to_their_stripe()
     ensures { λ r. ⌜ ((write : Bool) (t : Table) (store : List ℕ) (offset len : ℕ) (p : Piece) (l : Layout)
         → routed write t store offset len ≡ accepted p → layoutIn store (p .slot .0) ≡ accepted l
@@ -140,65 +148,70 @@ pub fn pieces_go_to_their_stripe()
         × (1 ≤ p .mirrors) × (p .mirrors < 2 ^ l .summary .mirrors)) ⌝ }
 {}
 
-// At each used start of an accepted body stands a data server, its device id, efficiency, stateid and filehandle count where RFC 8435 has them.
+// At each used start of an accepted body stands a data server, its device id, efficiency, stateid and filehandle
+// count where RFC 8435 has them.
 pub fn starts_are_servers()
     ensures { λ r. ⌜ ((s : List ℕ) (l : Layout) → layoutBody s ≡ accepted l
-        → (m k : ℕ) → m < l .summary .mirrors → k < l .summary .servers → ServerStands s (startAt (l .starts) m k)) ⌝ }
+        → (m k : ℕ) → m < l .summary .mirrors → k < l .summary .servers → ServerAt s (startAt (l .starts) m k)) ⌝ }
 {}
 
 // ---- Demand 3: the table is the reference model's
 
-// Demand 3, undivided, of the calls that `events::apply` is proved to be (its `ensures`, in events/src/stages.rt): after every list of events from the
-// empty table and the zeroed store their answers, table and store are those of the reference model, which the scope paper calls the ledger
-// (reference/specs/Model.antt). `Agreed` in reference/specs/Claim.antt has each sentence as a field or two. All that these calls keep of a file is its
-// table, at first the empty one; the model keeps rights and slots and nothing else (`byOwn`).
+// Demand 3, undivided, of the calls that `events::apply` is proved to be (its `ensures`, in events/src/stages.rt):
+// after every list of events from the empty table and the zeroed store their answers, table and store are those of
+// the reference model, which the scope paper calls the ledger (model/specs/Model.antt). `Agreed` in
+// model/specs/Claim.antt has each sentence as a field or two. All that these calls keep of a file is its table, at
+// first the empty one; the model keeps rights and slots and nothing else (`rightsAndSlots`).
 pub fn demand_3()
-    ensures { λ r. ⌜ Demand3 (λ t. t) emptyTable (byOwn lastByte) called ⌝ }
+    ensures { λ r. ⌜ Demand3 (λ t. t) emptyTable (rightsAndSlots lastByte) eventResult ⌝ }
 {}
 
-// Demand 3 and where an I/O goes, joined: after every list of events an I/O is served exactly as the rights say that the accepted events give its first
-// byte (`servedByRights`). A write is answered where that byte is granted in RW, under the body of that grant; a read where it is granted in READ, or else in
-// RW under a body without flag 4; elsewhere the answer is 17. A request that is out of order is 5, and 20 never comes.
+// Demand 3 and where an I/O goes, joined: after every list of events an I/O is served exactly as the rights say that
+// the accepted events give its first byte (`servedByRights`). A write is answered where that byte is granted in RW,
+// under the body of that grant; a read where it is granted in READ, or else in RW under a body without flag 4;
+// elsewhere the answer is 17. A request that is out of order is 5, and 20 never comes.
 pub fn io_goes_by_the_rights_that_events_give()
     ensures { λ r. ⌜ ((es : List Event) → Each Fits es → (write : Bool) (offset len : ℕ)
-        → given (routed write (keptLeft called es emptyTable zeroStore)
-        (storeLeft called es emptyTable zeroStore) offset len)
-        (λ p. accepted (servedOf (storeLeft called es emptyTable zeroStore) p))
+        → given (routed write (keptLeft eventResult es emptyTable zeroStore)
+        (storeLeft eventResult es emptyTable zeroStore) offset len)
+        (λ p. accepted (servedOf (storeLeft eventResult es emptyTable zeroStore) p))
         ≡ given (requestLast offset len) (λ last. servedByRights write
-        (rightGiven (acceptedOf es (answered called es emptyTable zeroStore)) READ offset none)
-        (rightGiven (acceptedOf es (answered called es emptyTable zeroStore)) RW offset none))) ⌝ }
+        (rightGiven (acceptedOf es (answered eventResult es emptyTable zeroStore)) READ offset none)
+        (rightGiven (acceptedOf es (answered eventResult es emptyTable zeroStore)) RW offset none))) ⌝ }
 {}
 
-// And not of the first byte alone: each byte of an answered piece is granted by the accepted events, in the iomode and under the body of the piece; for a
-// write that iomode is RW.
+// And not of the first byte alone: each byte of an answered piece is granted by the accepted events, in the iomode
+// and under the body of the piece; for a write that iomode is RW.
 pub fn each_byte_of_a_piece_is_granted()
     ensures { λ r. ⌜ ((es : List Event) → Each Fits es → (write : Bool) (offset len : ℕ) (p : Piece)
-        → routed write (keptLeft called es emptyTable zeroStore)
-        (storeLeft called es emptyTable zeroStore) offset len ≡ accepted p
+        → routed write (keptLeft eventResult es emptyTable zeroStore)
+        (storeLeft eventResult es emptyTable zeroStore) offset len ≡ accepted p
         → (m : Mode) × (p .iomode ≡ iomodeFor m) × (write ≡ true → m ≡ RW)
         × ((x : ℕ) → offset ≤ x → x < offset + p .length
-        → rightGiven (acceptedOf es (answered called es emptyTable zeroStore)) m x none
-        ≡ granted (bodyIn (slotAt (storeLeft called es emptyTable zeroStore) (p .slot .0))))) ⌝ }
+        → rightGiven (acceptedOf es (answered eventResult es emptyTable zeroStore)) m x none
+        ≡ granted (bodyIn (slotAt (storeLeft eventResult es emptyTable zeroStore) (p .slot .0))))) ⌝ }
 {}
 
-// The customer's complaint, "a table that has written after a recall": where a recall that covers a byte in RW is among the accepted events, and no grant
-// that covers it there comes after, that byte is in no piece that is answered to a write.
+// The customer's complaint, "a table that has written after a recall": where a recall that covers a byte in RW is
+// among the accepted events, and no grant that covers it there comes after, that byte is in no piece that is answered
+// to a write.
 pub fn no_write_after_a_recall()
-    ensures { λ r. ⌜ ((es : List Event) → Each Fits es → (before : List Order) (o : Order) (after : List Order)
-        → acceptedOf es (answered called es emptyTable zeroStore) ≡ before ++ (o ∷ after) → o .deed ≡ recalls
+    ensures { λ r. ⌜ ((es : List Event) → Each Fits es → (before : List Command) (o : Command) (after : List Command)
+        → acceptedOf es (answered eventResult es emptyTable zeroStore) ≡ before ++ (o ∷ after) → o .action ≡ recalls
         → (x : ℕ) → covers o RW x ≡ true → Each (λ o. grantsByte RW x o ≡ false) after → (offset len : ℕ) (p : Piece)
-        → routed true (keptLeft called es emptyTable zeroStore)
-        (storeLeft called es emptyTable zeroStore) offset len ≡ accepted p
+        → routed true (keptLeft eventResult es emptyTable zeroStore)
+        (storeLeft eventResult es emptyTable zeroStore) offset len ≡ accepted p
         → offset ≤ x → x < offset + p .length → ⊥) ⌝ }
 {}
 
-// Demand 3 of the functions that C links: over every list of calls, each handed the record and the store that the last one left. What they keep is a
-// record, at first the empty table's; and the record left is that of the model's table.
+// Demand 3 of the functions that C links: over every list of calls, each handed the record and the store that the
+// last one left. What they keep is a record, at first the empty table's; and the record left is that of the model's
+// table.
 pub fn demand_3_of_exported_functions()
-    ensures { λ r. ⌜ Demand3 tableOfRecord emptyRecord (byOwn lastByte) calledOn
+    ensures { λ r. ⌜ Demand3 tableOfRecord emptyRecord (rightsAndSlots lastByte) eventOnRecord
         × ((es : List Event) → Each Fits es
-        → keptLeft calledOn es emptyRecord zeroStore
-        ≡ recordOf (tableOf lastByte (run (byOwn lastByte) es start))) ⌝ }
+        → keptLeft eventOnRecord es emptyRecord zeroStore
+        ≡ recordOf (tableOf lastByte (run (rightsAndSlots lastByte) es start))) ⌝ }
 {}
 
 // ==== What follows
@@ -215,8 +228,8 @@ pub fn numbers_read_are_written()
     ensures { λ r. ⌜ ((k : ℕ) (bs : List ℕ) → length bs ≡ k → AllBytes bs → beBytes k (beValue bs) ≡ bs) ⌝ }
 {}
 
-// "says where each server starts, by mirror and by stripe": in the 128 starts of an accepted body, which are `startsOf` its mirrors, the start of
-// mirror m's server k is at the index m * 16 + k.
+// "says where each server starts, by mirror and by stripe": in the 128 starts of an accepted body, which are
+// `startsOf` its mirrors, the start of mirror m's server k is at the index m * 16 + k.
 pub fn starts_are_by_mirror_and_stripe()
     ensures { λ r. ⌜ ((mirrors : List (List Server)) → ((m : ℕ) → length (getD mirrors m []) ≤ mostServers)
         → (m k : ℕ) → k < mostServers → getD (startsOf mirrors) (m * mostServers + k) 0
@@ -230,12 +243,13 @@ pub fn other_starts_are_zero()
         → startAt (l .starts) m k ≡ 0) ⌝ }
 {}
 
-// "The smallest accepted body has 80 bytes"; of layout4 "The smallest has 108 bytes": no accepted one has fewer, and one has so many. "By these counts a body
-// has at most 3,368 bytes ..; one report with one error has 68": 8 bytes, 36 a report and 24 an error.
+// "The smallest accepted body has 80 bytes"; of layout4 "The smallest has 108 bytes": no accepted one has fewer, and
+// one has so many. "By these counts a body has at most 3,368 bytes ..; one report with one error has 68": 8 bytes, 36
+// a report and 24 an error.
 pub fn bodies_have_their_sizes()
     ensures { λ r. ⌜ ((s : List ℕ) (l : Layout) → layoutBody s ≡ accepted l → 80 ≤ length s)
         × ((isAccepted (layoutBody (bodyOf 0 1 0)) ≡ true) × (length (bodyOf 0 1 0) ≡ 80))
-        × ((s : List ℕ) (w : Whole) → layout4 s ≡ accepted w → 108 ≤ length s)
+        × ((s : List ℕ) (w : WholeLayout) → layout4 s ≡ accepted w → 108 ≤ length s)
         × ((isAccepted (layout4 (grantBytes 0 1 2 0)) ≡ true) × (length (grantBytes 0 1 2 0) ≡ 108))
         × ((s : List ℕ) (rs : List Report) → reportBody s ≡ accepted rs
         → (length s ≡ 8 + reportHeadSize * length rs + errorSize * counts (map (λ r. r .head) rs))
@@ -243,18 +257,19 @@ pub fn bodies_have_their_sizes()
         × ((s : List ℕ) (r : Report) → reportBody s ≡ accepted (r ∷ []) → r .head .errors ≡ 1 → length s ≡ 68) ⌝ }
 {}
 
-// Reading what was written gives the same reports, and at their places the same errors, for values that their fields can hold. The first report
-// stands at 4, behind the count.
+// Reading what was written gives the same reports, and at their places the same errors, for values that their fields
+// can hold. The first report stands at 4, behind the count.
 pub fn reports_written_are_read()
-    ensures { λ r. ⌜ ((count : ℕ) (heads : List ReportHead) (errors : List ErrorRecord) (room : ℕ) (bs : List ℕ)
-        → Each HeadFits (take count heads) → Each RecordFits errors → reportsWritten count heads errors room ≡ accepted bs
-        → (reportBody bs ≡ accepted (placed (take count heads) 4)) × (recordsIn bs (placed (take count heads) 4) ≡ errors)) ⌝ }
+    ensures { λ r. ⌜ ((count : ℕ) (heads : List ReportHead) (errors : List ErrorEntry) (room : ℕ) (bs : List ℕ)
+        → Each HeadFits (take count heads) → Each EntryFits errors → reportsWritten count heads errors room ≡ accepted bs
+        → (reportBody bs ≡ accepted (reportsFrom (take count heads) 4)) × (entriesIn bs (reportsFrom (take count heads) 4) ≡ errors)) ⌝ }
 {}
 
-// Writing what was read gives the same bytes, so no two bodies have the same reports and errors. room: the output's length.
+// Writing what was read gives the same bytes, so no two bodies have the same reports and errors. room: the output's
+// length.
 pub fn reports_read_are_written()
     ensures { λ r. ⌜ ((bs : List ℕ) (reports : List Report) (room : ℕ) → AllBytes bs → length bs ≤ room → reportBody bs ≡ accepted reports
-        → reportsWritten (length reports) (headsOf reports) (recordsIn bs reports) room ≡ accepted bs) ⌝ }
+        → reportsWritten (length reports) (headsOf reports) (entriesIn bs reports) room ≡ accepted bs) ⌝ }
 {}
 
 // A report body with nothing in it: eight zero bytes.
@@ -265,7 +280,8 @@ pub fn no_report_is_eight_zeros()
 
 // ---- From demand 2, of where an I/O goes
 
-// Where an I/O goes: an answered piece begins with its request, is not empty and not longer, and with more than one server lies in one stripe unit.
+// Where an I/O goes: an answered piece begins with its request, is not empty and not longer, and with more than one
+// server lies in one stripe unit.
 pub fn pieces_lie_in_request_and_unit()
     ensures { λ r. ⌜ ((write : Bool) (t : Table) (store : List ℕ) (offset len : ℕ) (p : Piece) → routed write t store offset len ≡ accepted p
         → (1 ≤ p .length) × (p .length ≤ len) × (p .offset ≡ offset)
@@ -273,11 +289,12 @@ pub fn pieces_lie_in_request_and_unit()
         → offset / l .summary .unit ≡ (offset + p .length - 1) / l .summary .unit)) ⌝ }
 {}
 
-// An answered piece lies in one segment of the iomode that it names, granted under the slot that it names; for a write that iomode is RW. "The piece answered
-// is the shortest of the request, the rest of that segment, and, with more than one server, the rest of the stripe unit": it ends with one of these.
+// An answered piece lies in one segment of the iomode that it names, granted under the slot that it names; for a
+// write that iomode is RW. "The piece answered is the shortest of the request, the rest of that segment, and, with
+// more than one server, the rest of the stripe unit": it ends with one of these.
 pub fn pieces_lie_in_granted_segments()
     ensures { λ r. ⌜ ((write : Bool) (t : Table) (store : List ℕ) (offset len : ℕ) (p : Piece) → routed write t store offset len ≡ accepted p
-        → PieceStands write t store offset len p) ⌝ }
+        → PieceLies write t store offset len p) ⌝ }
 {}
 
 // No write is answered for a byte that is recalled or not held.
@@ -286,9 +303,10 @@ pub fn writes_need_a_grant()
         → rightAt (listIn t RW) offset ≡ Granted (p .slot)) ⌝ }
 {}
 
-// "A read names one mirror: the highest efficiency, lowest number on a tie; each mirror is judged by the efficiency of its first data server .. A write
-// names all mirrors .. or with flag 8 only the mirror that this same rule picks in the write's own body." `efficiencyOf body starts 0 m` is that of mirror
-// m's first server. The mirrors are a set of bits.
+// "A read names one mirror: the highest efficiency, lowest number on a tie; each mirror is judged by the efficiency
+// of its first data server .. A write names all mirrors .. or with flag 8 only the mirror that this same rule picks
+// in the write's own body." `efficiencyOf body starts 0 m` is that of mirror m's first server. The mirrors are a set
+// of bits.
 pub fn mirrors_are_named_by_efficiency()
     ensures { λ r. ⌜ ((write : Bool) (t : Table) (store : List ℕ) (offset len : ℕ) (p : Piece) (l : Layout)
         → routed write t store offset len ≡ accepted p → layoutIn store (p .slot .0) ≡ accepted l
@@ -299,59 +317,65 @@ pub fn mirrors_are_named_by_efficiency()
 
 // ---- From demand 3
 
-// Demand 3 of tables of whatever origin: on every sound table and store, as their types have them (`Typed`), an event is the step of the model that
-// they show: its answer is the model's, and it leaves the table and the store of the model after the event.
+// Demand 3 of tables of whatever origin: on every sound table and store, as their types have them (`Typed`), an event
+// is the step of the model that they show: its answer is the model's, and it leaves the table and the store of the
+// model after the event.
 pub fn events_on_any_table()
     ensures { λ r. ⌜ ((e : Event) (t : Table) (store : List ℕ) → Fits e → Typed lastByte t store → sound t store ≡ true
-        → called e t store ≡ leftBy (byOwn lastByte) (tableOf lastByte) e (modelOf t store)) ⌝ }
+        → eventResult e t store ≡ leftBy (rightsAndSlots lastByte) (tableOf lastByte) e (modelOf t store)) ⌝ }
 {}
 
-// Soundness is: being the table and the store of some model, one that keeps the invariant of every model after a list of events.
+// Soundness is: being the table and the store of some model, one that keeps the invariant of every model after a list
+// of events.
 pub fn sound_is_of_a_model()
     ensures { λ r. ⌜ ((t : Table) (store : List ℕ) → Typed lastByte t store → sound t store ≡ true → OfModel t store)
         × ((t : Table) (store : List ℕ) → OfModel t store → sound t store ≡ true) ⌝ }
 {}
 
-// Demand 3 fails of calls that refuse everything, with whatever numbers, of calls that answer as any others do and change nothing, and of calls that
-// obey any others while nothing is held and then answer as any others do and change nothing.
+// Demand 3 fails of calls that refuse everything, with whatever numbers, of calls that answer as any others do and
+// change nothing, and of calls that obey any others while nothing is held and then answer as any others do and change
+// nothing.
 pub fn stand_ins_fall()
     ensures { λ r. ⌜ ((number : Event → Table → List ℕ → ℕ) → ((e : Event) (t : Table) (store : List ℕ) → number e t store ≡ 0 → ⊥)
-        → Demand3 (λ t. t) emptyTable (byOwn lastByte) (refusesAll number) → ⊥)
-        × ((call : Calls Table) → Demand3 (λ t. t) emptyTable (byOwn lastByte) (changesNothing call) → ⊥)
+        → Demand3 (λ t. t) emptyTable (rightsAndSlots lastByte) (refusesAll number) → ⊥)
+        × ((call : Calls Table) → Demand3 (λ t. t) emptyTable (rightsAndSlots lastByte) (changesNothing call) → ⊥)
         × ((call later : Calls Table)
-        → Demand3 (λ t. t) emptyTable (byOwn lastByte) (firstOnly (λ t. t) call later) → ⊥) ⌝ }
+        → Demand3 (λ t. t) emptyTable (rightsAndSlots lastByte) (firstOnly (λ t. t) call later) → ⊥) ⌝ }
 {}
 
 // After every list of events table and store are sound.
 pub fn events_leave_sound_tables()
     ensures { λ r. ⌜ ((es : List Event) → Each Fits es
-        → sound (keptLeft called es emptyTable zeroStore) (storeLeft called es emptyTable zeroStore) ≡ true) ⌝ }
+        → sound (keptLeft eventResult es emptyTable zeroStore) (storeLeft eventResult es emptyTable zeroStore) ≡ true) ⌝ }
 {}
 
 // "20 never comes": no event of a list from the empty table is answered 20.
 pub fn no_list_meets_20()
     ensures { λ r. ⌜ ((es : List Event) → Each Fits es
-        → Each (λ n. n ≡ 20 → ⊥) (answered called es emptyTable zeroStore)) ⌝ }
+        → Each (λ n. n ≡ 20 → ⊥) (answered eventResult es emptyTable zeroStore)) ⌝ }
 {}
 
-// "a whole-file recall or return (offset 0, length 2^64 - 1) and a revoke never meet 23", on whatever table of 64-bit numbers.
+// "a whole-file recall or return (offset 0, length 2^64 - 1) and a revoke never meet 23", on whatever table of 64-bit
+// numbers.
 pub fn whole_file_events_always_fit()
     ensures { λ r. ⌜ ((t : Table) (store : List ℕ)
         → Each (EndsBy lastByte) (listOf (t .read)) → Each (EndsBy lastByte) (listOf (t .rw)) → (number : ℕ)
-        → (called (Return 0 toTheEnd number) t store .answer ≡ 23 → ⊥)
-        × (called (Recall 0 toTheEnd number) t store .answer ≡ 23 → ⊥)
-        × (called Revoke t store .answer ≡ 23 → ⊥)) ⌝ }
+        → (eventResult (Return 0 toTheEnd number) t store .answer ≡ 23 → ⊥)
+        × (eventResult (Recall 0 toTheEnd number) t store .answer ≡ 23 → ⊥)
+        × (eventResult Revoke t store .answer ≡ 23 → ⊥)) ⌝ }
 {}
 
-// A table crosses to C as a record of plain numbers: the record of a table stands for that table, and what a record stands for has that record.
+// A table crosses to C as a record of plain numbers: the record of a table stands for that table, and what a record
+// stands for has that record.
 pub fn records_stand_for_tables()
     ensures { λ r. ⌜ ((t : Table) → tableIn (recordOf t) ≡ accepted t)
         × ((given : TableRecord) (t : Table) → tableIn given ≡ accepted t → recordOf t ≡ given) ⌝ }
 {}
 
-// The exported events are the events: on the record of a table they leave the record of the table that `called` leaves.
+// The exported events are the events: on the record of a table they leave the record of the table that `eventResult`
+// leaves.
 pub fn exported_events_are_the_events()
-    ensures { λ r. ⌜ ((e : Event) (t : Table) (store : List ℕ) → calledOn e (recordOf t) store ≡ recorded (called e t store)) ⌝ }
+    ensures { λ r. ⌜ ((e : Event) (t : Table) (store : List ℕ) → eventOnRecord e (recordOf t) store ≡ recorded (eventResult e t store)) ⌝ }
 {}
 
 // The exported lookups are the lookups: on the record of a table they answer what `routed` does on the table.
@@ -362,13 +386,13 @@ pub fn exported_lookups_are_the_lookups()
 
 // ---- Worked examples
 
-// The starred lines of the scope paper's worked examples, one list of cases of one type, in examples/specs/Examples.antt; those with events on a file of
-// 2^64 bytes.
+// The starred lines of the scope paper's worked examples, one list of cases of one type, in
+// examples/specs/Examples.antt; those with events on a file of 2^64 bytes.
 pub fn worked_examples_hold()
-    ensures { λ r. ⌜ Each Holds examples ⌝ }
+    ensures { λ r. ⌜ Each ExampleHolds examples ⌝ }
 {}
 
 // Other worked examples of the table, on a file of 2^64 bytes: answers and segments of each list of events.
 pub fn table_examples_hold()
-    ensures { λ r. ⌜ Each cases.Holds cases.cases ⌝ }
+    ensures { λ r. ⌜ Each cases.CaseHolds cases.cases ⌝ }
 {}

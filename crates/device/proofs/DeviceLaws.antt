@@ -5,11 +5,11 @@ use mathlib.Core.List.{List}
 use borrow.Author.Tests.{le-leb, lt-leb, eq-eqb, ne-eqb}
 use lib.ListN.{length}
 use Rattle.base.specs.Answer.{accepted, refused, pick}
-use Rattle.xdr.specs.Res.{ok, no, then, whole}
+use Rattle.xdr.specs.Parsed.{ok, fault, then, whole}
 use Rattle.xdr.specs.Lists.{Listed}
 use Rattle.device.specs.Bodies.{addressesAt, versionsAt, deviceAt, deviceBody}
-use Rattle.netaddr.specs.declared.address.Address.{Address}
-use Rattle.device_version.specs.declared.version.Version.{Version}
+use Rattle.device.specs.declared.address.Address.{Address}
+use Rattle.device.specs.declared.version.Version.{Version}
 
 -- ---- the faults, front to back
 
@@ -18,11 +18,11 @@ unfolding deviceBody pick
 body-too-long s h = rw (lt-leb (length s) 2048 h)
 
 module _ (s : List ℕ) (h : length s ≤ 2048) where
-  pub addresses-refused : (k : ℕ) → addressesAt s 0 ≡ no k → deviceBody s ≡ refused k
+  pub addresses-refused : (k : ℕ) → addressesAt s 0 ≡ fault k → deviceBody s ≡ refused k
   unfolding deviceBody deviceAt then whole pick
   addresses-refused k e = rw (le-leb (length s) 2048 h, e)
 
-  pub versions-refused : (a : Listed Address) (p k : ℕ) → addressesAt s 0 ≡ ok a p → versionsAt s p ≡ no k
+  pub versions-refused : (a : Listed Address) (p k : ℕ) → addressesAt s 0 ≡ ok a p → versionsAt s p ≡ fault k
       → deviceBody s ≡ refused k
   unfolding deviceBody deviceAt then whole pick
   versions-refused a p k e f = rw (le-leb (length s) 2048 h, e, f)
@@ -35,6 +35,6 @@ module _ (s : List ℕ) (h : length s ≤ 2048) where
 
   pub body-accepted : (a : Listed Address) (v : Listed Version) (p q : ℕ)
       → addressesAt s 0 ≡ ok a p → versionsAt s p ≡ ok v q → q ≡ length s
-      → deviceBody s ≡ accepted (record { addressCount = a .count; addresses = a .places; versionCount = v .count; versions = v .places })
+      → deviceBody s ≡ accepted (record { addressCount = a .count; addresses = a .entries; versionCount = v .count; versions = v .entries })
   unfolding deviceBody deviceAt then whole pick
   body-accepted a v p q e f n = rw (le-leb (length s) 2048 h, e, f, eq-eqb q (length s) n)

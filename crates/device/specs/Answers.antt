@@ -3,8 +3,8 @@ use mathlib.Core.List.{List}
 use Rattle.base.specs.Answer.{Answer, accepted, refused}
 use Rattle.base.specs.Refusals.{faultNumber}
 use Rattle.device.specs.Bodies.{Device}
-use Rattle.netaddr.specs.declared.address.Address.{Address}
-use Rattle.device_version.specs.declared.version.Version.{Version}
+use Rattle.device.specs.declared.address.Address.{Address}
+use Rattle.device.specs.declared.version.Version.{Version}
 use Rattle.device.specs.declared.body.DeviceAnswer.{DeviceAnswer}
 use Rattle.device.specs.declared.body.DeviceAnswer.the-variants as device
 use Rattle.device.specs.declared.body.DeviceRead.{DeviceRead}

@@ -1,23 +1,24 @@
--- The device body, ff_device_addr4 of RFC 8435, 4.1: "address count (1 to 8), each ..; version count (1 to 8), each ..".
+-- The device body, ff_device_addr4 of RFC 8435, 4.1: "address count (1 to 8), each ..; version count (1 to 8), each
+-- ..".
 use Prim.Native.Nat.{ℕ}
 use mathlib.Core.List.{List}
 use lib.ListN.{length, replicate}
 use lib.Dec.{leb}
 use Rattle.base.specs.Answer.{Answer, accepted, refused, pick}
 use Rattle.base.specs.Limits.{longestDeviceBody, mostAddresses, mostVersions}
-use Rattle.xdr.specs.Res.{Res, ok, then, whole}
+use Rattle.xdr.specs.Parsed.{Parsed, ok, then, whole}
 use Rattle.xdr.specs.Lists.{Listed, listAt}
-use Rattle.netaddr.specs.Addresses.{addressAt, blankAddress}
-use Rattle.device_version.specs.Versions.{versionAt, blankVersion}
-use Rattle.netaddr.specs.declared.address.Address.{Address}
-use Rattle.device_version.specs.declared.version.Version.{Version}
+use Rattle.device.specs.Addresses.{addressAt, blankAddress}
+use Rattle.device.specs.Versions.{versionAt, blankVersion}
+use Rattle.device.specs.declared.address.Address.{Address}
+use Rattle.device.specs.declared.version.Version.{Version}
 
 -- "address count (1 to 8), each a netid (1 to 8 bytes) and an address (1 to 64 bytes)"
-abbrev pub addressesAt : List ℕ → ℕ → Res (Listed Address)
+abbrev pub addressesAt : List ℕ → ℕ → Parsed (Listed Address)
 addressesAt s at = listAt 1 mostAddresses addressAt blankAddress s at
 
 -- "version count (1 to 8), each version, minor, rsize, wsize (4 each) and the tightly-coupled boolean"
-abbrev pub versionsAt : List ℕ → ℕ → Res (Listed Version)
+abbrev pub versionsAt : List ℕ → ℕ → Parsed (Listed Version)
 versionsAt s at = listAt 1 mostVersions versionAt blankVersion s at
 
 -- the addresses and the versions of one data server, in 8 places each
@@ -28,11 +29,11 @@ pub record Device : Type 0 where
   pub versions : List Version
 
 -- the body, front to back
-unfoldable pub deviceAt : List ℕ → ℕ → Res Device
+unfoldable pub deviceAt : List ℕ → ℕ → Parsed Device
 deviceAt s at =
     then (addressesAt s at) λ a p.
     then (versionsAt s p) λ v q.
-    ok (record { addressCount = a .count; addresses = a .places; versionCount = v .count; versions = v .places }) q
+    ok (record { addressCount = a .count; addresses = a .entries; versionCount = v .count; versions = v .entries }) q
 
 -- "At most 2,048 bytes, tested first of all; nothing may follow."
 unfoldable pub deviceBody : List ℕ → Answer Device

@@ -1,19 +1,19 @@
 // The whole device body: a list of addresses, then a list of versions.
-use base::ADDRESS_PLACES;
+use crate::address::Address;
+use crate::address::ReadAddress;
+use crate::address::fault_of_address;
+use crate::address::read_address;
+use crate::netid::NetidClass;
+use crate::version::ReadVersion;
+use crate::version::Version;
+use crate::version::fault_of_version;
+use crate::version::read_version;
+use base::ADDRESS_ENTRIES;
 use base::Fault;
 use base::LONGEST_DEVICE_BODY;
 use base::MOST_ADDRESSES;
 use base::MOST_VERSIONS;
-use base::VERSION_PLACES;
-use device_version::ReadVersion;
-use device_version::Version;
-use device_version::read_version;
-use device_version::why_version;
-use netaddr::Address;
-use netaddr::NetidClass;
-use netaddr::ReadAddress;
-use netaddr::read_address;
-use netaddr::why_address;
+use base::VERSION_ENTRIES;
 use xdr::Cursor;
 use xdr::Part;
 use xdr::ReadU32;
@@ -23,9 +23,9 @@ ghost use lib.ListN.{replicate};
 ghost use Rattle.base.specs.Limits.{mostAddresses, mostVersions};
 ghost use Rattle.base.specs.Answer.{refusalIn, refused};
 ghost use Rattle.base.specs.Refusals.{faultNumber};
-ghost use Rattle.xdr.specs.Answers.{resOfList};
-ghost use Rattle.netaddr.specs.Addresses.{blankAddress};
-ghost use Rattle.device_version.specs.Versions.{blankVersion};
+ghost use Rattle.xdr.specs.Answers.{parsedOfList};
+ghost use Rattle.device.specs.Addresses.{blankAddress};
+ghost use Rattle.device.specs.Versions.{blankVersion};
 ghost use Rattle.device.specs.Bodies.{addressesAt, versionsAt, deviceBody, addressesIn, versionsIn};
 ghost use Rattle.device.specs.Answers.{answerOfDevice, deviceOf};
 
@@ -38,20 +38,20 @@ pub enum DeviceAnswer {
 // Unused places are blank, and all of them after a refusal.
 pub struct DeviceRead {
     pub answer: DeviceAnswer,
-    pub addresses: [Address; ADDRESS_PLACES],
-    pub versions: [Version; VERSION_PLACES],
+    pub addresses: [Address; ADDRESS_ENTRIES],
+    pub versions: [Version; VERSION_ENTRIES],
 }
 
 // The count, and the addresses in the first places.
 struct AddressList {
     answer: ReadU32,
-    places: [Address; ADDRESS_PLACES],
+    entries: [Address; ADDRESS_ENTRIES],
 }
 
 // The count, and the versions in the first places.
 struct VersionList {
     answer: ReadU32,
-    places: [Version; VERSION_PLACES],
+    entries: [Version; VERSION_ENTRIES],
 }
 
 const NO_ADDRESS: Address = Address {
@@ -68,14 +68,14 @@ const NO_VERSION: Version = Version {
 };
 
 fn read_addresses(s: &[u8], c: Cursor) -> AddressList
-    ensures { λ r. ⌜ resOfList (r .places) (r .answer) ≡ addressesAt (now (s .entry)) (c .at) ⌝ }
+    ensures { λ r. ⌜ parsedOfList (r .entries) (r .answer) ≡ addressesAt (now (s .entry)) (c .at) ⌝ }
 {
-    let mut places = [NO_ADDRESS; ADDRESS_PLACES];
+    let mut entries = [NO_ADDRESS; ADDRESS_ENTRIES];
     let count = xdr::read_count(s, c, 1, MOST_ADDRESSES);
     let ReadU32::Value(n, first) = count else {
         return AddressList {
             answer: count,
-            places: places,
+            entries: entries,
         };
     };
     let mut d = first;
@@ -84,29 +84,29 @@ fn read_addresses(s: &[u8], c: Cursor) -> AddressList
         let r = read_address(s, d);
         let ReadAddress::Value(a, e) = r else {
             return AddressList {
-                answer: ReadU32::Refused(why_address(r)),
-                places: places,
+                answer: ReadU32::Refused(fault_of_address(r)),
+                entries: entries,
             };
         };
-        places[i as usize] = a;
+        entries[i as usize] = a;
         d = e;
         i += 1;
     }
     AddressList {
         answer: ReadU32::Value(n, d),
-        places: places,
+        entries: entries,
     }
 }
 
 fn read_versions(s: &[u8], c: Cursor) -> VersionList
-    ensures { λ r. ⌜ resOfList (r .places) (r .answer) ≡ versionsAt (now (s .entry)) (c .at) ⌝ }
+    ensures { λ r. ⌜ parsedOfList (r .entries) (r .answer) ≡ versionsAt (now (s .entry)) (c .at) ⌝ }
 {
-    let mut places = [NO_VERSION; VERSION_PLACES];
+    let mut entries = [NO_VERSION; VERSION_ENTRIES];
     let count = xdr::read_count(s, c, 1, MOST_VERSIONS);
     let ReadU32::Value(n, first) = count else {
         return VersionList {
             answer: count,
-            places: places,
+            entries: entries,
         };
     };
     let mut d = first;
@@ -115,17 +115,17 @@ fn read_versions(s: &[u8], c: Cursor) -> VersionList
         let r = read_version(s, d);
         let ReadVersion::Value(v, e) = r else {
             return VersionList {
-                answer: ReadU32::Refused(why_version(r)),
-                places: places,
+                answer: ReadU32::Refused(fault_of_version(r)),
+                entries: entries,
             };
         };
-        places[i as usize] = v;
+        entries[i as usize] = v;
         d = e;
         i += 1;
     }
     VersionList {
         answer: ReadU32::Value(n, d),
-        places: places,
+        entries: entries,
     }
 }
 
@@ -136,8 +136,8 @@ fn refuse(e: Fault) -> DeviceRead
 {
     DeviceRead {
         answer: DeviceAnswer::Refused(e),
-        addresses: [NO_ADDRESS; ADDRESS_PLACES],
-        versions: [NO_VERSION; VERSION_PLACES],
+        addresses: [NO_ADDRESS; ADDRESS_ENTRIES],
+        versions: [NO_VERSION; VERSION_ENTRIES],
     }
 }
 
@@ -150,18 +150,18 @@ pub fn read_device(s: &[u8]) -> DeviceRead
     let a = read_addresses(s, Cursor { at: 0 });
     let first = a.answer;
     let ReadU32::Value(m, d) = first else {
-        return refuse(xdr::why_u32(first));
+        return refuse(xdr::fault_of_u32(first));
     };
     let v = read_versions(s, d);
     let second = v.answer;
     let ReadU32::Value(n, e) = second else {
-        return refuse(xdr::why_u32(second));
+        return refuse(xdr::fault_of_u32(second));
     };
     if e.at != s.len() {
         return refuse(Fault::BytesLeftOver);
     }
-    let addresses = a.places;
-    let versions = v.places;
+    let addresses = a.entries;
+    let versions = v.entries;
     DeviceRead {
         answer: DeviceAnswer::Counts(m, n),
         addresses: addresses,
@@ -169,7 +169,7 @@ pub fn read_device(s: &[u8]) -> DeviceRead
     }
 }
 
-pub fn why_device(r: DeviceAnswer) -> Fault
+pub fn fault_of_device(r: DeviceAnswer) -> Fault
     ensures { λ e. ⌜ faultNumber e ≡ refusalIn (deviceOf r [] []) ⌝ }
 {
     match r {

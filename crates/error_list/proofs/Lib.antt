@@ -1,5 +1,5 @@
-pub mod FirstRecords
-pub mod WireRecords
+pub mod FirstEntries
+pub mod WireEntries
 pub mod State
 pub mod Again
 pub mod Local

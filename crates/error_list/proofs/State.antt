@@ -1,4 +1,4 @@
--- Where the loop of `put_records` stands, and what holds there. Nothing of the program logic is in it.
+-- Where the loop of `put_entries` stands, and what holds there. Nothing of the program logic is in it.
 --     State ys n es    i records are stored, and zs is what the buffer then is
 --     start, next      the first state; the state after one more record
 --     room, ..-fits    the next record has room; the numbers fit a usize
@@ -12,29 +12,29 @@ use native.Mathlib.Numerals.{add-one}
 use lib.ListN.{length, getD, take}
 use lib.Seq.{take-suc}
 use lib.WfN.{Nat·lt-wfRel}
-use Rattle.report_write.specs.Writing.{recordsAt}
-use Rattle.error_list.specs.Records.{recordOf, recordsOf}
-use Rattle.error_list.specs.declared.ErrorRecord.{ErrorRecord}
+use Rattle.report.specs.Writing.{entriesAt}
+use Rattle.error_list.specs.Entries.{entryOf, entriesOf}
+use Rattle.error_list.specs.declared.ErrorEntry.{ErrorEntry}
 
 -- what `getD` has past the end: it is never met
-abbrev pub blank : ErrorRecord
+abbrev pub blank : ErrorEntry
 blank = record { device = []; status = 0; operation = 0 }
 
-pub none-taken : (ys : List ℕ) (es : List ErrorRecord) → recordsAt 0 ys 0 ≡ recordsOf (take 0 es)
-unfolding recordsAt
+pub none-taken : (ys : List ℕ) (es : List ErrorEntry) → entriesAt 0 ys 0 ≡ entriesOf (take 0 es)
+unfolding entriesAt
 none-taken ys es = refl
 
-pub taken-more : (es : List ErrorRecord) (i : ℕ) → i < length es → recordsOf (take (i + 1) es) ≡ recordsOf (take i es) ++ (recordOf (getD es i blank) ∷ [])
-taken-more es i h = rw (add-one i, take-suc es i blank h) (map-append recordOf (take i es) (getD es i blank ∷ []))
+pub taken-more : (es : List ErrorEntry) (i : ℕ) → i < length es → entriesOf (take (i + 1) es) ≡ entriesOf (take i es) ++ (entryOf (getD es i blank) ∷ [])
+taken-more es i h = rw (add-one i, take-suc es i blank h) (map-append entryOf (take i es) (getD es i blank ∷ []))
 
-pub record State (ys : List ℕ) (n : ℕ) (es : List ErrorRecord) : Type 0 where
+pub record State (ys : List ℕ) (n : ℕ) (es : List ErrorEntry) : Type 0 where
   pub i : ℕ
   pub zs : List ℕ
   pub upto : i ≤ n
   pub long : length zs ≡ length ys
-  pub same : recordsAt i zs 0 ≡ recordsOf (take i es)
+  pub same : entriesAt i zs 0 ≡ entriesOf (take i es)
 
-module _ (ys : List ℕ) (n : ℕ) (es : List ErrorRecord) where
+module _ (ys : List ℕ) (n : ℕ) (es : List ErrorEntry) where
   abbrev pub Nearer : State ys n es → State ys n es → Type 0
   Nearer u t = n - u .i < n - t .i
 
@@ -45,7 +45,7 @@ module _ (ys : List ℕ) (n : ℕ) (es : List ErrorRecord) where
   start = record { i = 0; zs = ys; upto = omega arith; long = refl; same = none-taken ys es }
 
   module _ (t : State ys n es) where
-    abbrev pub elem : ErrorRecord
+    abbrev pub elem : ErrorEntry
     elem = getD es (t .i) blank
 
     pub nearer : t .i < n → n - (t .i + 1) < n - t .i
@@ -57,20 +57,20 @@ module _ (ys : List ℕ) (n : ℕ) (es : List ErrorRecord) where
     pub next-fits : n < 2 ^ 64 → t .i < n → t .i + 1 < 2 ^ 64
     next-fits h k = omega arith
 
-    pub whole : (t .i < n → ⊥) → recordsAt n (t .zs) 0 ≡ recordsOf (take n es)
+    pub whole : (t .i < n → ⊥) → entriesAt n (t .zs) 0 ≡ entriesOf (take n es)
     whole h =
         let e : t .i ≡ n = omega (arith, t .upto) in
         rw e at (t .same)
 
     module _ (within : n ≤ length es) where
-      abbrev pub next : (ws : List ℕ) → t .i < n → recordsAt (t .i + 1) ws 0 ≡ recordsAt (t .i) (t .zs) 0 ++ (recordOf elem ∷ [])
+      abbrev pub next : (ws : List ℕ) → t .i < n → entriesAt (t .i + 1) ws 0 ≡ entriesAt (t .i) (t .zs) 0 ++ (entryOf elem ∷ [])
           → length ws ≡ length (t .zs) → State ys n es
       next ws h e l = record {
         i = t .i + 1;
         zs = ws;
         upto = omega arith;
         long = l ∙ t .long;
-        same = e ∙ ap (λ (rs : List _). rs ++ (recordOf elem ∷ [])) (t .same) ∙ sym (taken-more es (t .i) (omega arith));
+        same = e ∙ ap (λ (rs : List _). rs ++ (entryOf elem ∷ [])) (t .same) ∙ sym (taken-more es (t .i) (omega arith));
       }
 
       pub offset-fits : length es * 24 < 2 ^ 63 → t .i * 24 < 2 ^ 64

@@ -1,28 +1,28 @@
--- What the types of the events' code stand for: an event, its order, what the rights say, and an outcome.
+-- What the types of the events' code stand for: an event, its command, what the rights say, and an outcome.
 use Prim.Native.Nat.{ℕ, _+_, _≤_}
 use mathlib.Core.List.{List}
 use Rattle.base.specs.Refusals.{faultNumber, numberOf}
 use Rattle.base.specs.Answer.{Answer, accepted, refused}
-use Rattle.numbers.specs.Numbers.{bytesFrom}
+use Rattle.bytes.specs.Numbers.{bytesFrom}
 use Rattle.segments.specs.declared.Table.{Table}
 use Rattle.store.specs.Store.{Body}
-use Rattle.reference.specs.Model as model
-use Rattle.reference.specs.Claim.{CallResult}
+use Rattle.model.specs.Model as model
+use Rattle.model.specs.Claim.{CallResult}
 use Rattle.events.specs.declared.event.Event.{Event}
 use Rattle.events.specs.declared.event.Event.the-variants as event
-use Rattle.events.specs.declared.order.Deed.{Deed}
-use Rattle.events.specs.declared.order.Deed.the-variants as deed
-use Rattle.events.specs.declared.order.Order.{Order}
-use Rattle.events.specs.declared.order.ReadOrder.{ReadOrder}
-use Rattle.events.specs.declared.order.ReadOrder.the-variants as order
-use Rattle.events.specs.declared.step.Step.{Step}
-use Rattle.events.specs.declared.step.Ruling.{Ruling}
-use Rattle.events.specs.declared.step.Ruling.the-variants as ruling
+use Rattle.events.specs.declared.command.Action.{Action}
+use Rattle.events.specs.declared.command.Action.the-variants as action
+use Rattle.events.specs.declared.command.Command.{Command}
+use Rattle.events.specs.declared.command.ReadCommand.{ReadCommand}
+use Rattle.events.specs.declared.command.ReadCommand.the-variants as command
+use Rattle.events.specs.declared.decision.Update.{Update}
+use Rattle.events.specs.declared.decision.Decision.{Decision}
+use Rattle.events.specs.declared.decision.Decision.the-variants as decision
 use Rattle.events.specs.declared.outcome.Outcome.{Outcome}
 use Rattle.events.specs.declared.outcome.Verdict.{Verdict}
 use Rattle.events.specs.declared.outcome.Verdict.the-variants.{Accepted, Refused}
 
--- ---- an event and its order; bytes: those of a grant
+-- ---- an event and its command; bytes: those of a grant
 
 abbrev pub eventOf : Event → List ℕ → model.Event
 eventOf event.Grant bytes = model.Grant bytes
@@ -31,35 +31,35 @@ eventOf (event.Recall n) bytes = model.Recall (n .offset) (n .len) (n .iomode)
 eventOf event.Revoke bytes = model.Revoke
 
 -- b: a grant's body
-abbrev pub deedOf : Deed → Body → model.Deed
-deedOf deed.Grant b = model.grants b
-deedOf deed.Return b = model.returns
-deedOf deed.Recall b = model.recalls
-deedOf deed.Revoke b = model.revokes
+abbrev pub actionOf : Action → Body → model.Action
+actionOf action.Grant b = model.grants b
+actionOf action.Return b = model.returns
+actionOf action.Recall b = model.recalls
+actionOf action.Revoke b = model.revokes
 
-abbrev pub orderOf : Order → List ℕ → model.Order
-orderOf o bytes = record {
-  deed = deedOf (o .deed) (bytesFrom (o .body .len) bytes (o .body .start));
+abbrev pub commandOf : Command → List ℕ → model.Command
+commandOf o bytes = record {
+  action = actionOf (o .action) (bytesFrom (o .body .len) bytes (o .body .start));
   iomode = o .span .iomode;
   first = o .span .first;
   last = o .span .last;
   len = o .len;
 }
 
-abbrev pub answerOfOrder : ReadOrder → List ℕ → Answer model.Order
-answerOfOrder (order.Value o) bytes = accepted (orderOf o bytes)
-answerOfOrder (order.Refused e) bytes = refused (faultNumber e)
+abbrev pub answerOfCommand : ReadCommand → List ℕ → Answer model.Command
+answerOfCommand (command.Value o) bytes = accepted (commandOf o bytes)
+answerOfCommand (command.Refused e) bytes = refused (faultNumber e)
 
--- the body of an order lies in n bytes
-abbrev pub BodyIn : ReadOrder → ℕ → Type 0
-BodyIn (order.Value o) n = o .body .start + o .body .len ≤ n
-BodyIn (order.Refused e) n = Unit {0}
+-- the body of an command lies in n bytes
+abbrev pub BodyIn : ReadCommand → ℕ → Type 0
+BodyIn (command.Value o) n = o .body .start + o .body .len ≤ n
+BodyIn (command.Refused e) n = Unit {0}
 
 -- ---- what the rights say
 
-abbrev pub answerOfRuling : Ruling → Answer Step
-answerOfRuling (ruling.Allowed s) = accepted s
-answerOfRuling (ruling.Refused e) = refused (numberOf e)
+abbrev pub answerOfDecision : Decision → Answer Update
+answerOfDecision (decision.Allowed s) = accepted s
+answerOfDecision (decision.Refused e) = refused (numberOf e)
 
 -- ---- an outcome: 0 for accepted, else the refusal's number
 

@@ -1,11 +1,11 @@
 // The four events on a table and a body store. Each goes through five stages: soundness; the event's own bytes and
 // numbers; what the rights say; the edit; the store, which is written after the last test has passed.
-mod carry;
+mod command;
+mod decision;
 mod event;
-mod order;
 mod outcome;
 mod stages;
-mod step;
+mod update;
 
 pub use event::Event;
 pub use event::Numbers;
@@ -13,4 +13,4 @@ pub use outcome::Outcome;
 pub use outcome::Verdict;
 pub use stages::apply;
 // What the definitions of the stages speak of.
-pub use step::Step;
+pub use decision::Update;

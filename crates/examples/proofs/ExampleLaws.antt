@@ -11,23 +11,24 @@ use Rattle.base.specs.Ranges.{rangeLast, requestLast}
 use Rattle.base.proofs.AnswerLaws.{both}
 use Rattle.layout.specs.Layouts.{frontAt, layoutAt, layoutBody, mirrorAt, mirrorsAt, rows, startAt, startsOf, tailAt, unitFits}
 use Rattle.layout4.specs.Layout4s.{frameAt, layout4, layout4At, rangeAt}
-use Rattle.numbers.specs.Numbers.{allZero, beAt, beBytes, beFrom, beValue, leAt, leBytes, leValue, sameBytes}
-use Rattle.reference.specs.Cases.{bodyOf, grantBytes, servers}
-use Rattle.reference.specs.Model.{act, afterAt, answerTo, answers, anyByte, covers, grantOrder, ifNamed, inLowest, inSlots, meets, modelAfter, noneEmpty, own, rangeOrder, run, segmentsIn, slotOf, tooMany, verdict}
-use Rattle.reference.proofs.Examples.{HoldsOn, in-full, staysBelow}
-use Rattle.reference.proofs.ShortFiles.{allStay, stays, staysIn}
-use Rattle.reference.specs.Sound.{allBlank, apart, apartFromNext, inOrder, isFit, noTwoAlike, segmentsSound, slotSound, slotsFrom, slotsIn, slotsSound, sound}
+use Rattle.bytes.specs.Numbers.{allZero, beAt, beBytes, beFrom, beValue, leAt, leBytes, leValue, sameBytes}
+use Rattle.model.specs.Cases.{bodyOf, grantBytes, servers}
+use Rattle.model.specs.Model.{act, afterAt, answerTo, answers, anyByte, covers, grantCommand, ifNamed, inLowest, inSlots, meets, modelAfter, noneEmpty, readCommand, rangeCommand, run, segmentsIn, slotOf, tooMany, verdict}
+use Rattle.model.proofs.Examples.{HoldsOn, in-full, staysBelow}
+use Rattle.model.proofs.ShortFiles.{allStay, stays, staysIn}
+use Rattle.model.specs.SlotsShown.{allDistinct, slotsFrom, slotsIn}
+use Rattle.soundness.specs.Sound.{allBlank, apart, apartFromNext, inOrder, isFit, segmentsSound, slotSound, slotsSound, sound}
 use Rattle.report.specs.Reports.{errorFits}
-use Rattle.report_write.specs.Writing.{allFit, bodyBytes, bodyWritten, counts, errorBytes, errorsBytes, fitted, headBytes, judged, judgedOne, reportsBytes, reportsWritten}
+use Rattle.report.specs.Writing.{allFit, bodyBytes, bodyWritten, counts, errorBytes, errorsBytes, fitted, headBytes, checkedReports, checkedReport, reportsBytes, reportsWritten}
 use Rattle.route.specs.Mirrors.{bestMirror, efficiencyOf}
 use Rattle.route.specs.Routes.{grantIn, layoutIn, mirrorsNamed, pieceAt, routed, served}
 use Rattle.route.specs.Stripes.{pieceLength, stripeOf, unitRest}
-use Rattle.segments.specs.Segments.{anyBelow, anyNames, inFront, inPlaces, isNamed, scan, segmentsOf, withByte}
-use Rattle.server.specs.Servers.{handlesAt, headAt, serverAt}
+use Rattle.segments.specs.Segments.{anyBelow, anyNames, inFront, inEntries, isNamed, scan, segmentsOf, withByte}
+use Rattle.server.specs.Servers.{handlesAt, serverHeadAt, serverAt}
 use Rattle.store.specs.Store.{bodyIn, kindIn, lengthIn, slotBytes, storeOf}
 use Rattle.xdr.specs.Items.{bytesAt, countAt, numAt, opaqueAt}
-use Rattle.xdr.specs.Res.{asItem, manyAt, then, whole}
-use Rattle.examples.specs.Examples.{Example, Events, NoReport, Range, Write, Holds, examples}
+use Rattle.xdr.specs.Parsed.{asItem, manyAt, then, whole}
+use Rattle.examples.specs.Examples.{Example, Events, NoReport, Range, Write, ExampleHolds, examples}
 
 -- the last byte of a file on which the events are computed
 abbrev short : ℕ
@@ -36,9 +37,9 @@ short = 120
 -- what an example says of such a file
 abbrev HoldsShort : Example → Type 0
 HoldsShort (Events c) = HoldsOn short c
-HoldsShort (Write b rw offset len answer) = Holds (Write b rw offset len answer)
-HoldsShort (Range offset len last) = Holds (Range offset len last)
-HoldsShort (NoReport bytes) = Holds (NoReport bytes)
+HoldsShort (Write b rw offset len answer) = ExampleHolds (Write b rw offset len answer)
+HoldsShort (Range offset len last) = ExampleHolds (Range offset len last)
+HoldsShort (NoReport bytes) = ExampleHolds (NoReport bytes)
 
 -- whether no grant of an example goes past its last byte
 abbrev stayShort : List Example → Bool
@@ -48,7 +49,7 @@ stayShort (Write b rw offset len answer ∷ xs) = stayShort xs
 stayShort (Range offset len last ∷ xs) = stayShort xs
 stayShort (NoReport bytes ∷ xs) = stayShort xs
 
-all-in-full : (xs : List Example) → stayShort xs ≡ true → Each HoldsShort xs → Each Holds xs
+all-in-full : (xs : List Example) → stayShort xs ≡ true → Each HoldsShort xs → Each ExampleHolds xs
 all-in-full [] s h = tt
 all-in-full (Events c ∷ xs) s h =
     let p = both (staysBelow short c) (stayShort xs) s in
@@ -58,12 +59,12 @@ all-in-full (Range offset len last ∷ xs) s h = (h .0, all-in-full xs s (h .1))
 all-in-full (NoReport bytes ∷ xs) s h = (h .0, all-in-full xs s (h .1))
 
 examples-short : Each HoldsShort examples
-unfolding given pick grantIomodeOf iomodeOf padded rangeLast requestLast frontAt layoutAt layoutBody mirrorAt mirrorsAt rows startAt startsOf tailAt unitFits frameAt layout4 layout4At rangeAt beAt beBytes beFrom beValue leAt leBytes leValue sameBytes bodyOf grantBytes servers act afterAt answerTo answers anyByte covers grantOrder ifNamed inLowest inSlots meets modelAfter noneEmpty own rangeOrder run segmentsIn slotOf tooMany verdict allBlank apart apartFromNext inOrder isFit noTwoAlike segmentsSound slotSound slotsFrom slotsIn slotsSound sound errorFits allFit bodyBytes bodyWritten counts errorBytes errorsBytes fitted headBytes judged judgedOne reportsBytes reportsWritten best bestMirror efficiencyOf grantIn layoutIn mirrorsNamed pieceAt routed served pieceLength stripeOf unitRest anyBelow anyNames inFront inPlaces isNamed scan segmentsOf withByte handlesAt headAt serverAt bodyIn kindIn lengthIn slotBytes storeOf allZero bytesAt countAt numAt opaqueAt asItem manyAt then whole
+unfolding given pick grantIomodeOf iomodeOf padded rangeLast requestLast frontAt layoutAt layoutBody mirrorAt mirrorsAt rows startAt startsOf tailAt unitFits frameAt layout4 layout4At rangeAt beAt beBytes beFrom beValue leAt leBytes leValue sameBytes bodyOf grantBytes servers act afterAt answerTo answers anyByte covers grantCommand ifNamed inLowest inSlots meets modelAfter noneEmpty readCommand rangeCommand run segmentsIn slotOf tooMany verdict allBlank apart apartFromNext inOrder isFit allDistinct segmentsSound slotSound slotsFrom slotsIn slotsSound sound errorFits allFit bodyBytes bodyWritten counts errorBytes errorsBytes fitted headBytes checkedReports checkedReport reportsBytes reportsWritten best bestMirror efficiencyOf grantIn layoutIn mirrorsNamed pieceAt routed served pieceLength stripeOf unitRest anyBelow anyNames inFront inEntries isNamed scan segmentsOf withByte handlesAt serverHeadAt serverAt bodyIn kindIn lengthIn slotBytes storeOf allZero bytesAt countAt numAt opaqueAt asItem manyAt then whole
 examples-short = (refl, (refl, (refl, (refl, (refl, (refl, ((refl, refl, refl), ((refl, refl, refl), ((refl, refl, refl), ((refl, refl, refl), (refl, (refl, ((refl, refl, refl), (refl, tt))))))))))))))
 
 examples-stay : stayShort examples ≡ true
-unfolding allStay stays staysIn own grantOrder rangeOrder given pick bodyOf servers grantBytes beBytes beFrom beValue layout4 layout4At frameAt rangeAt rangeLast requestLast grantIomodeOf iomodeOf then asItem whole manyAt allZero bytesAt countAt numAt opaqueAt headAt handlesAt serverAt frontAt layoutAt layoutBody mirrorsAt tailAt unitFits
+unfolding allStay stays staysIn readCommand grantCommand rangeCommand given pick bodyOf servers grantBytes beBytes beFrom beValue layout4 layout4At frameAt rangeAt rangeLast requestLast grantIomodeOf iomodeOf then asItem whole manyAt allZero bytesAt countAt numAt opaqueAt serverHeadAt handlesAt serverAt frontAt layoutAt layoutBody mirrorsAt tailAt unitFits
 examples-stay = refl
 
-pub examples-hold : Each Holds examples
+pub examples-hold : Each ExampleHolds examples
 examples-hold = all-in-full examples examples-stay examples-short

@@ -7,11 +7,11 @@ use lib.ListN.{length, replicate}
 use Rattle.base.specs.Answer.{Answer, accepted, refused, pick}
 use Rattle.base.specs.Refusals.{faultNumber}
 use Rattle.base.specs.declared.refusal.Fault.{Fault}
-use Rattle.xdr.specs.Res.{ok, no, then, whole}
+use Rattle.xdr.specs.Parsed.{ok, fault, then, whole}
 use Rattle.server.specs.declared.item.Server.{Server}
 use Rattle.layout.specs.Layouts.{Layout, frontAt, layoutAt, layoutBody, mirrorsAt, startsOf, tailAt}
-use Rattle.layout.specs.declared.ends.Front.{Front}
-use Rattle.layout.specs.declared.ends.Tail.{Tail}
+use Rattle.layout.specs.declared.front_and_tail.Front.{Front}
+use Rattle.layout.specs.declared.front_and_tail.Tail.{Tail}
 use Rattle.layout.specs.declared.body.Summary.{Summary}
 use Rattle.layout.specs.Answers.{answerOfLayout, startsIn}
 use Rattle.layout.specs.declared.body.LayoutAnswer.{LayoutAnswer}
@@ -21,7 +21,7 @@ pub too-long : (s : List ℕ) → 4090 < length s → layoutBody s ≡ refused 8
 unfolding layoutBody pick
 too-long s h = rw (lt-leb _ _ h)
 
-pub fault-met : (s : List ℕ) (n : ℕ) → length s ≤ 4090 → layoutAt s ≡ no n → layoutBody s ≡ refused n
+pub fault-met : (s : List ℕ) (n : ℕ) → length s ≤ 4090 → layoutAt s ≡ fault n → layoutBody s ≡ refused n
 unfolding layoutBody pick whole
 fault-met s n h e = rw (le-leb _ _ h, e)
 

@@ -5,10 +5,10 @@ use mathlib.Core.Bool.{true}
 use mathlib.Core.List.{List}
 use native.Mathlib.Omega.{arith}
 use lib.ListN.{length}
-use Rattle.xdr.specs.Res.{ok}
-use Rattle.xdr.proofs.Accepted.{count-read, passed, ran, same-place, same-value}
+use Rattle.xdr.specs.Parsed.{ok}
+use Rattle.xdr.proofs.Accepted.{count-read, pick-inv, then-inv, same-offset, same-value}
 use Rattle.layout.specs.Layouts.{frontAt, unitFits}
-use Rattle.layout.specs.declared.ends.Front.{Front}
+use Rattle.layout.specs.declared.front_and_tail.Front.{Front}
 
 pub record FrontRead (s : List ℕ) (v : Front) (p : ℕ) : Type 0 where
   pub mirrors-some : 1 ≤ v .mirrors
@@ -21,14 +21,14 @@ pub record FrontRead (s : List ℕ) (v : Front) (p : ℕ) : Type 0 where
 pub front-read : (s : List ℕ) (at : ℕ) (v : Front) (p : ℕ) → frontAt s at ≡ ok v p → FrontRead s v p
 unfolding frontAt
 front-read s at v p h =
-    let u = ran _ _ v p h in
-    let m = ran _ _ v p (u .rest) in
+    let u = then-inv _ _ v p h in
+    let m = then-inv _ _ v p (u .rest) in
     let mc = count-read 1 8 s (u .next) (m .item) (m .next) (m .first) in
-    let n = ran _ _ v p (m .rest) in
+    let n = then-inv _ _ v p (m .rest) in
     let nc = count-read 1 16 s (m .next) (n .item) (n .next) (n .first) in
-    let t = passed _ _ 10 v p (n .rest) in
+    let t = pick-inv _ _ 10 v p (n .rest) in
     let e = same-value (t .chosen) in
-    let f : n .next ≡ p = same-place (t .chosen) in
+    let f : n .next ≡ p = same-offset (t .chosen) in
     let em : m .item ≡ v .mirrors = ap (λ (x : Front). x .mirrors) e in
     let en : n .item ≡ v .servers = ap (λ (x : Front). x .servers) e in
     record {

@@ -13,17 +13,17 @@ use Rattle.base.specs.Answer.{accepted, pick}
 use Rattle.base.specs.Lists.{Each, padded}
 use Rattle.base.proofs.ListLaws.{each-at, each-map, length-padded, padded-at}
 use Rattle.base.proofs.AnswerLaws.{pick-accepted}
-use Rattle.xdr.specs.Res.{ok, manyAt, whole}
-use Rattle.xdr.proofs.Accepted.{passed, ran, same-place, same-value, whole-read}
+use Rattle.xdr.specs.Parsed.{ok, manyAt, whole}
+use Rattle.xdr.proofs.Accepted.{pick-inv, then-inv, same-offset, same-value, whole-read}
 use Rattle.xdr.proofs.ManyLaws.{many-each}
 use Rattle.server.specs.Servers.{serverAt}
 use Rattle.server.specs.declared.item.Server.{Server}
 use Rattle.server.proofs.ServerLaws.{server-read}
 use Rattle.layout.specs.Layouts.{Layout, frontAt, layoutAt, layoutBody, mirrorAt, mirrorsAt, rows, startAt, startsOf, tailAt, unitFits}
-use Rattle.layout.specs.declared.ends.Front.{Front}
-use Rattle.layout.specs.declared.ends.Tail.{Tail}
+use Rattle.layout.specs.declared.front_and_tail.Front.{Front}
+use Rattle.layout.specs.declared.front_and_tail.Tail.{Tail}
 use Rattle.layout.proofs.FrontLaws.{front-read}
-use Rattle.layout.proofs.TableLaws.{HasServers, mirrors-have}
+use Rattle.layout.proofs.StartTableLaws.{HasServers, mirrors-have}
 
 -- ---- the parts of an accepted body
 
@@ -45,9 +45,9 @@ pub accepted-parts : (s : List ℕ) (l : Layout) → layoutBody s ≡ accepted l
 unfolding layoutBody layoutAt
 accepted-parts s l e =
     let w = whole-read s (layoutAt s) l (pick-accepted _ _ 8 l e .1) in
-    let f = ran _ _ l (length s) w in
-    let m = ran _ _ l (length s) (f .rest) in
-    let t = ran _ _ l (length s) (m .rest) in
+    let f = then-inv _ _ l (length s) w in
+    let m = then-inv _ _ l (length s) (f .rest) in
+    let t = then-inv _ _ l (length s) (m .rest) in
     record {
       front = f .item;
       p1 = f .next;
@@ -56,7 +56,7 @@ accepted-parts s l e =
       p2 = m .next;
       mirrors-read = m .first;
       tail = t .item;
-      tail-read = t .first ∙ ap (λ (q : ℕ). ok (t .item) q) (same-place (t .rest));
+      tail-read = t .first ∙ ap (λ (q : ℕ). ok (t .item) q) (same-offset (t .rest));
       whole = same-value (t .rest);
     }
 
@@ -113,12 +113,12 @@ row-has n (row ∷ ms) each (suc m) = row-has n ms (each .1) m
 -- ---- the data server at a start
 
 -- a data server was read at this place
-pub record Stands (s : List ℕ) (at : ℕ) : Type 0 where
+pub record ServerReadAt (s : List ℕ) (at : ℕ) : Type 0 where
   pub server : Server
   pub next : ℕ
   pub read : serverAt s at ≡ ok server next
 
-moved : {s : List ℕ} {a b : ℕ} → a ≡ b → Stands s a → Stands s b
+moved : {s : List ℕ} {a b : ℕ} → a ≡ b → ServerReadAt s a → ServerReadAt s b
 moved {s} g i = record { server = i .server; next = i .next; read = ap (λ (x : ℕ). serverAt s x) (sym g) ∙ i .read }
 
 -- the starts of a mirror's servers
@@ -126,40 +126,40 @@ abbrev pub starts : List Server → List ℕ
 starts m = map (λ v. v .device) m
 
 -- each of a mirror's servers stands where its start says
-abbrev Standing : List ℕ → List Server → Type 0
-Standing s m = Each (Stands s) (starts m)
+abbrev ServersReadAt : List ℕ → List Server → Type 0
+ServersReadAt s m = Each (ServerReadAt s) (starts m)
 
-servers-stand : (n : ℕ) (s : List ℕ) (at : ℕ) (m : List Server) (p : ℕ) → manyAt serverAt n s at ≡ ok m p → Standing s m
+servers-stand : (n : ℕ) (s : List ℕ) (at : ℕ) (m : List Server) (p : ℕ) → manyAt serverAt n s at ≡ ok m p → ServersReadAt s m
 servers-stand n s at m p e =
-    each-map (λ v. v .device) (Stands s) m (many-each serverAt s (λ v. Stands s (v .device)) stands n at m p e) where
-      stands : (at : ℕ) (v : Server) (p : ℕ) → serverAt s at ≡ ok v p → Stands s (v .device)
+    each-map (λ v. v .device) (ServerReadAt s) m (many-each serverAt s (λ v. ServerReadAt s (v .device)) stands n at m p e) where
+      stands : (at : ℕ) (v : Server) (p : ℕ) → serverAt s at ≡ ok v p → ServerReadAt s (v .device)
       stands at v p e = moved (sym (server-read s at v p e .device)) (record { server = v; next = p; read = e })
 
-mirror-stands : (n : ℕ) (s : List ℕ) (at : ℕ) (m : List Server) (p : ℕ) → mirrorAt n s at ≡ ok m p → Standing s m
+mirror-stands : (n : ℕ) (s : List ℕ) (at : ℕ) (m : List Server) (p : ℕ) → mirrorAt n s at ≡ ok m p → ServersReadAt s m
 unfolding mirrorAt
 mirror-stands n s at m p e =
-    let r = ran _ _ m p e in
-    servers-stand n s (r .next) m p (passed _ _ 9 m p (r .rest) .chosen)
+    let r = then-inv _ _ m p e in
+    servers-stand n s (r .next) m p (pick-inv _ _ 9 m p (r .rest) .chosen)
 
 mirrors-stand : (mirrors servers : ℕ) (s : List ℕ) (at : ℕ) (ms : List (List Server)) (p : ℕ) → mirrorsAt mirrors servers s at ≡ ok ms p
-    → Each (Standing s) ms
+    → Each (ServersReadAt s) ms
 unfolding mirrorsAt
 mirrors-stand mirrors servers s at ms p e =
-    let r = ran _ _ ms p e in
-    let t = ran _ _ ms p (r .rest) in
+    let r = then-inv _ _ ms p e in
+    let t = then-inv _ _ ms p (r .rest) in
     let first = servers-stand servers s at (r .item) (r .next) (r .first) in
-    let others = many-each (mirrorAt servers) s (Standing s) (mirror-stands servers s) (mirrors - 1) (r .next) (t .item) (t .next) (t .first) in
+    let others = many-each (mirrorAt servers) s (ServersReadAt s) (mirror-stands servers s) (mirrors - 1) (r .next) (t .item) (t .next) (t .first) in
     rw (← same-value (t .rest)) (first, others)
 
 all-stand : (mirrors servers : ℕ) (s : List ℕ) (at : ℕ) (ms : List (List Server)) (p : ℕ) → 1 ≤ mirrors → mirrorsAt mirrors servers s at ≡ ok ms p
-    → (m k : ℕ) → m < mirrors → k < servers → Stands s (getD (starts (getD ms m [])) k 0)
+    → (m k : ℕ) → m < mirrors → k < servers → ServerReadAt s (getD (starts (getD ms m [])) k 0)
 all-stand mirrors servers s at ms p some e m k hm hk =
     let r = mirrors-have mirrors servers s at ms p some e in
     let i : m < length ms = omega (arith, r .count) in
     let row = getD ms m [] in
     let long : length row ≡ servers = each-at (HasServers servers) ms m [] (r .each) i in
     let j : k < length (starts row) = omega (arith, length-map row (λ (v : Server). v .device)) in
-    each-at (Stands s) (starts row) k 0 (each-at (Standing s) ms m [] (mirrors-stand mirrors servers s at ms p e) i) j
+    each-at (ServerReadAt s) (starts row) k 0 (each-at (ServersReadAt s) ms m [] (mirrors-stand mirrors servers s at ms p e) i) j
 
 -- ---- one start out of the table
 
@@ -181,9 +181,9 @@ module _ (table : List ℕ) (m k : ℕ) where
       go (no s) = no-start-of-stripe (omega arith)
 
 -- the place of mirror m and stripe k in the table
-place-of : (s : List ℕ) (l : Layout) (h : layoutBody s ≡ accepted l) (m k : ℕ) → k < 16
+offset-of : (s : List ℕ) (l : Layout) (h : layoutBody s ≡ accepted l) (m k : ℕ) → k < 16
     → getD (l .starts) (m * 16 + k) 0 ≡ getD (starts (getD (accepted-parts s l h .mirrors) m [])) k 0
-place-of s l h m k small =
+offset-of s l h m k small =
     let p = accepted-parts s l h in
     let f = front-read s 0 (p .front) (p .p1) (p .front-read) in
     let r = mirrors-have (p .front .mirrors) (p .front .servers) s (p .p1) (p .mirrors) (p .p2) (f .mirrors-some) (p .mirrors-read) in
@@ -192,7 +192,7 @@ place-of s l h m k small =
 
 -- at each used start stands a data server: its device id there, efficiency 16 bytes on, stateid 20, filehandle count 36 (`server-read`)
 pub start-stands : (s : List ℕ) (l : Layout) → layoutBody s ≡ accepted l
-    → (m k : ℕ) → m < l .summary .mirrors → k < l .summary .servers → Stands s (startAt (l .starts) m k)
+    → (m k : ℕ) → m < l .summary .mirrors → k < l .summary .servers → ServerReadAt s (startAt (l .starts) m k)
 start-stands s l h m k hm hk =
     let p = accepted-parts s l h in
     let n = accepted-limits s l h in
@@ -200,7 +200,7 @@ start-stands s l h m k hm hk =
     let en : p .front .servers ≡ l .summary .servers = ap (λ (x : Layout). x .summary .servers) (p .whole) in
     let i = all-stand (p .front .mirrors) (p .front .servers) s (p .p1) (p .mirrors) (p .p2) (omega (arith, n .mirrors-some)) (p .mirrors-read) m k (omega arith) (omega arith) in
     let few : k < 16 = omega (arith, n .servers-few) in
-    let g = start-at (l .starts) m k few ∙ place-of s l h m k few in
+    let g = start-at (l .starts) m k few ∙ offset-of s l h m k few in
     moved (sym g) i
 
 -- ---- unused places
@@ -222,4 +222,4 @@ start-unused s l h m k small beyond =
     (λ b. let z : length (p .mirrors) ≤ m = omega (arith, r .count) in let e : row ≡ [] = List·getD-eq-default (p .mirrors) [] z in omega (arith, ap length e))
     (λ b. omega arith)
     beyond in
-    start-at (l .starts) m k small ∙ place-of s l h m k small ∙ List·getD-eq-default (starts row) 0 none
+    start-at (l .starts) m k small ∙ offset-of s l h m k small ∙ List·getD-eq-default (starts row) 0 none

@@ -2,4 +2,4 @@ pub mod BodyLaws
 pub mod FrontLaws
 pub mod LayoutLaws
 pub mod StartLaws
-pub mod TableLaws
+pub mod StartTableLaws

@@ -1,5 +1,5 @@
--- ff_layout4 and ff_mirror4 of RFC 8435, 5.1.
--- "Layout body: stripe unit (8); mirror count (4) and mirrors; flags (4); statistics hint (4, any). A mirror: server count (4) and servers."
+-- ff_layout4 and ff_mirror4 of RFC 8435, 5.1. "Layout body: stripe unit (8); mirror count (4) and mirrors; flags (4);
+-- statistics hint (4, any). A mirror: server count (4) and servers."
 use Prim.Native.Nat.{ℕ, _+_, _-_, _*_}
 use mathlib.Core.Bool.{Bool}
 use mathlib.Core.List.{List, [], _∷_, _++_, map}
@@ -8,12 +8,12 @@ use lib.Dec.{leb, ltb, eqb}
 use Rattle.base.specs.Answer.{Answer, refused, pick}
 use Rattle.base.specs.Limits.{knownFlags, longestBody, mostMirrors, mostServers, mostStarts}
 use Rattle.base.specs.Lists.{padded}
-use Rattle.xdr.specs.Res.{Res, ok, no, then, manyAt, whole}
+use Rattle.xdr.specs.Parsed.{Parsed, ok, fault, then, manyAt, whole}
 use Rattle.xdr.specs.Items.{countAt, numAt}
 use Rattle.server.specs.Servers.{serverAt}
 use Rattle.server.specs.declared.item.Server.{Server}
-use Rattle.layout.specs.declared.ends.Front.{Front}
-use Rattle.layout.specs.declared.ends.Tail.{Tail}
+use Rattle.layout.specs.declared.front_and_tail.Front.{Front}
+use Rattle.layout.specs.declared.front_and_tail.Tail.{Tail}
 use Rattle.layout.specs.declared.body.Summary.{Summary}
 
 -- "with one server the unit is 0; with more we require it to be above 0"
@@ -21,36 +21,37 @@ unfoldable pub unitFits : ℕ → ℕ → Bool
 unitFits unit servers = pick (eqb servers 1) (eqb unit 0) (leb 1 unit)
 
 -- "1 to 8 mirrors; 1 to 16 servers a mirror". Unit and first server count are held against each other at that count.
-unfoldable pub frontAt : List ℕ → ℕ → Res Front
+unfoldable pub frontAt : List ℕ → ℕ → Parsed Front
 frontAt s at =
     then (numAt 8 s at) λ unit p1.
     then (countAt 1 mostMirrors s p1) λ mirrors p2.
     then (countAt 1 mostServers s p2) λ servers p3.
-    pick (unitFits unit servers) (ok (record { unit = unit; mirrors = mirrors; servers = servers }) p3) (no 10)
+    pick (unitFits unit servers) (ok (record { unit = unit; mirrors = mirrors; servers = servers }) p3) (fault 10)
 
 -- "all mirrors have the same server count": a mirror behind the first, which had n servers
-unfoldable pub mirrorAt : ℕ → List ℕ → ℕ → Res (List Server)
-mirrorAt n s at = then (countAt 1 mostServers s at) λ count p. pick (eqb count n) (manyAt serverAt n s p) (no 9)
+unfoldable pub mirrorAt : ℕ → List ℕ → ℕ → Parsed (List Server)
+mirrorAt n s at = then (countAt 1 mostServers s at) λ count p. pick (eqb count n) (manyAt serverAt n s p) (fault 9)
 
 -- the mirrors, from behind the first server count
-unfoldable pub mirrorsAt : ℕ → ℕ → List ℕ → ℕ → Res (List (List Server))
+unfoldable pub mirrorsAt : ℕ → ℕ → List ℕ → ℕ → Parsed (List (List Server))
 mirrorsAt mirrors servers s at =
     then (manyAt serverAt servers s at) λ first p1.
     then (manyAt (mirrorAt servers) (mirrors - 1) s p1) λ others p2.
     ok (first ∷ others) p2
 
 -- "Flags are bits 1 .., 2 .., 4 .., 8 ..; any other bit is refused": a number above 15 has another bit
-unfoldable pub tailAt : List ℕ → ℕ → Res Tail
+unfoldable pub tailAt : List ℕ → ℕ → Parsed Tail
 tailAt s at =
     then (numAt 4 s at) λ flags p1.
-    pick (leb flags knownFlags) (then (numAt 4 s p1) λ hint p2. ok (record { flags = flags; hint = hint }) p2) (no 11)
+    pick (leb flags knownFlags) (then (numAt 4 s p1) λ hint p2. ok (record { flags = flags; hint = hint }) p2) (fault 11)
 
 -- 16 places a mirror: where each of its servers starts, then zeros
 unfoldable pub rows : List (List Server) → List ℕ
 rows [] = []
 rows (m ∷ ms) = padded mostServers 0 (map (λ v. v .device) m) ++ rows ms
 
--- "says where each server starts, by mirror and by stripe, as byte offsets from the body's first byte, with 0 in unused places"
+-- "says where each server starts, by mirror and by stripe, as byte offsets from the body's first byte, with 0 in
+-- unused places"
 unfoldable pub startsOf : List (List Server) → List ℕ
 startsOf mirrors = padded mostStarts 0 (rows mirrors)
 
@@ -65,7 +66,7 @@ pub record Layout : Type 0 where
   pub starts : List ℕ
 
 -- the body, front to back
-unfoldable pub layoutAt : List ℕ → Res Layout
+unfoldable pub layoutAt : List ℕ → Parsed Layout
 layoutAt s =
     then (frontAt s 0) λ front p1.
     then (mirrorsAt (front .mirrors) (front .servers) s p1) λ mirrors p2.

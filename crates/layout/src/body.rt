@@ -1,10 +1,10 @@
 // The layout body as a whole, with its summary.
-use crate::ends::ReadFront;
-use crate::ends::ReadTail;
-use crate::ends::read_front;
-use crate::ends::read_tail;
-use crate::ends::why_front;
-use crate::ends::why_tail;
+use crate::front_and_tail::ReadFront;
+use crate::front_and_tail::ReadTail;
+use crate::front_and_tail::fault_of_front;
+use crate::front_and_tail::fault_of_tail;
+use crate::front_and_tail::read_front;
+use crate::front_and_tail::read_tail;
 use crate::mirrors::read_mirrors;
 use base::Fault;
 use base::LONGEST_BODY;
@@ -57,16 +57,16 @@ pub fn read_layout(s: &[u8]) -> LayoutRead
     }
     let f = read_front(s, Cursor { at: 0 });
     let ReadFront::Value(front, c1) = f else {
-        return refused(why_front(f));
+        return refused(fault_of_front(f));
     };
     let mut starts = [0u16; MOST_STARTS];
     let m = read_mirrors(s, c1, front.mirrors, front.servers, &mut starts);
     let ReadEnd::Value(c2) = m else {
-        return refused(xdr::why_end(m));
+        return refused(xdr::fault_of_end(m));
     };
     let t = read_tail(s, c2);
     let ReadTail::Value(tail, c3) = t else {
-        return refused(why_tail(t));
+        return refused(fault_of_tail(t));
     };
     if c3.at != s.len() {
         return refused(Fault::BytesLeftOver);
@@ -83,7 +83,7 @@ pub fn read_layout(s: &[u8]) -> LayoutRead
     }
 }
 
-pub fn why_layout(r: LayoutAnswer) -> Fault
+pub fn fault_of_layout(r: LayoutAnswer) -> Fault
     ensures { λ e. ⌜ faultNumber e ≡ refusalIn (answerOfLayout r []) ⌝ }
 {
     match r {

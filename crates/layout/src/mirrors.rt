@@ -1,8 +1,9 @@
-// The mirrors of a layout body, and where each data server starts. The loops borrow the table of starts, so that it is copied only once.
+// The mirrors of a layout body, and where each data server starts. The loops borrow the table of starts, so that it
+// is copied only once.
 use base::Fault;
 use base::MOST_SERVERS;
 use base::MOST_STARTS;
-use base::ROW_PLACES;
+use base::ROW_ENTRIES;
 use server::ReadServer;
 use xdr::Cursor;
 use xdr::ReadEnd;
@@ -12,9 +13,9 @@ ghost use Prim.Native.Nat.{_+_, _≤_};
 ghost use lib.ListN.{length};
 ghost use Rattle.base.specs.Limits.{longestBody, mostMirrors, mostServers, mostStarts};
 ghost use Rattle.server.specs.Servers.{serverAt};
-ghost use Rattle.xdr.specs.Res.{manyAt};
+ghost use Rattle.xdr.specs.Parsed.{manyAt};
 ghost use Rattle.layout.specs.Layouts.{mirrorAt, mirrorsAt};
-ghost use Rattle.layout.specs.Starts.{resOfStarts, withServers, withMirrors};
+ghost use Rattle.layout.specs.Starts.{parsedOfStarts, withServers, withMirrors};
 
 // n servers, their starts from the index first on.
 fn read_servers(
@@ -25,7 +26,7 @@ fn read_servers(
     starts: &mut [u16; MOST_STARTS],
 ) -> ReadEnd
     requires { ⌜ (length (now s) ≤ longestBody) × (c .at ≤ length (now s)) × (first + n ≤ mostStarts) ⌝ }
-    ensures { λ r. ⌜ resOfStarts r (now (starts .exit)) ≡ withServers first (manyAt serverAt n (now (s .entry)) (c .at)) (now (starts .entry)) ⌝ }
+    ensures { λ r. ⌜ parsedOfStarts r (now (starts .exit)) ≡ withServers first (manyAt serverAt n (now (s .entry)) (c .at)) (now (starts .entry)) ⌝ }
 {
     let mut d = c;
     let mut left = n;
@@ -33,7 +34,7 @@ fn read_servers(
     while 0 < left {
         let r = server::read_server(s, d);
         let ReadServer::Value(_, e) = r else {
-            return ReadEnd::Refused(server::why_server(r));
+            return ReadEnd::Refused(server::fault_of_server(r));
         };
         let at = d.at;
         starts[k] = at as u16;
@@ -53,11 +54,11 @@ fn read_mirror(
     starts: &mut [u16; MOST_STARTS],
 ) -> ReadEnd
     requires { ⌜ (length (now s) ≤ longestBody) × (first + n ≤ mostStarts) ⌝ }
-    ensures { λ r. ⌜ resOfStarts r (now (starts .exit)) ≡ withServers first (mirrorAt n (now (s .entry)) (c .at)) (now (starts .entry)) ⌝ }
+    ensures { λ r. ⌜ parsedOfStarts r (now (starts .exit)) ≡ withServers first (mirrorAt n (now (s .entry)) (c .at)) (now (starts .entry)) ⌝ }
 {
     let r = xdr::read_count(s, c, 1, MOST_SERVERS);
     let ReadU32::Value(count, d) = r else {
-        return ReadEnd::Refused(xdr::why_u32(r));
+        return ReadEnd::Refused(xdr::fault_of_u32(r));
     };
     if count != n {
         return ReadEnd::Refused(Fault::ServerCountDiffers);
@@ -75,7 +76,7 @@ pub(crate) fn read_mirrors(
 ) -> ReadEnd
     requires { ⌜ (length (now s) ≤ longestBody) × (c .at ≤ length (now s)) × (mirrors ≤ mostMirrors)
         × (servers ≤ mostServers) ⌝ }
-    ensures { λ r. ⌜ resOfStarts r (now (starts .exit)) ≡ withMirrors 0 (mirrorsAt mirrors servers (now (s .entry)) (c .at)) (now (starts .entry)) ⌝ }
+    ensures { λ r. ⌜ parsedOfStarts r (now (starts .exit)) ≡ withMirrors 0 (mirrorsAt mirrors servers (now (s .entry)) (c .at)) (now (starts .entry)) ⌝ }
 {
     let f = read_servers(s, c, servers, 0, starts);
     let ReadEnd::Value(c1) = f else {
@@ -84,7 +85,7 @@ pub(crate) fn read_mirrors(
     let mut d = c1;
     let mut m: usize = 1;
     while m < mirrors as usize {
-        let r = read_mirror(s, d, servers, m * ROW_PLACES, starts);
+        let r = read_mirror(s, d, servers, m * ROW_ENTRIES, starts);
         let ReadEnd::Value(e) = r else {
             return r;
         };

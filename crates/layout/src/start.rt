@@ -1,8 +1,8 @@
 // Where one data server starts.
-use base::MIRROR_PLACES;
+use base::MIRROR_ENTRIES;
 use base::MOST_STARTS;
 use base::MirrorNumber;
-use base::ROW_PLACES;
+use base::ROW_ENTRIES;
 use base::StripeNumber;
 ghost use mathlib.Core.Path.{_≡_};
 ghost use Rattle.layout.specs.Layouts.{startAt};
@@ -13,11 +13,11 @@ pub fn start_of(starts: [u16; MOST_STARTS], mirror: MirrorNumber, stripe: Stripe
 {
     let m = mirror.0 as usize;
     let k = stripe.0 as usize;
-    if MIRROR_PLACES <= m {
+    if MIRROR_ENTRIES <= m {
         return 0;
     }
-    if ROW_PLACES <= k {
+    if ROW_ENTRIES <= k {
         return 0;
     }
-    starts[m * ROW_PLACES + k]
+    starts[m * ROW_ENTRIES + k]
 }

@@ -5,5 +5,5 @@ mod whole;
 pub use whole::Layout4;
 pub use whole::Layout4Answer;
 pub use whole::Layout4Read;
+pub use whole::fault_of_layout4;
 pub use whole::read_layout4;
-pub use whole::why_layout4;

@@ -1,8 +1,8 @@
 // A layout4 as a whole. Its body is read in its own length, so that a fault in it comes before its padding.
 use crate::frame::Frame;
 use crate::frame::ReadFrame;
+use crate::frame::fault_of_frame;
 use crate::frame::read_frame;
-use crate::frame::why_frame;
 use base::Fault;
 use base::Iomode;
 use base::MOST_STARTS;
@@ -21,7 +21,7 @@ ghost use lib.Dec.{leb};
 ghost use lib.ListN.{length, replicate};
 ghost use Rattle.xdr.specs.Items.{padding};
 ghost use Rattle.layout4.specs.Layout4s.{layout4};
-ghost use Rattle.layout4.specs.Answers.{answerOfLayout4, startsIn};
+ghost use Rattle.layout4.specs.Answers.{answerOfLayout4, startsOfWhole};
 
 // Offset and length as on the wire, the last byte, and where the body stands.
 pub struct Layout4 {
@@ -80,11 +80,11 @@ fn enough(s: &[u8], at: usize, n: u32) -> bool
 
 pub fn read_layout4(s: &[u8]) -> Layout4Read
     ensures { λ r. ⌜ (answerOfLayout4 (r .answer) (r .starts) ≡ layout4 (now (s .entry)))
-        × (r .starts ≡ startsIn (layout4 (now (s .entry)))) ⌝ }
+        × (r .starts ≡ startsOfWhole (layout4 (now (s .entry)))) ⌝ }
 {
     let f = read_frame(s, Cursor { at: 0 });
     let ReadFrame::Value(frame, c1) = f else {
-        return refused(why_frame(f));
+        return refused(fault_of_frame(f));
     };
     let at = c1.at;
     if !enough(s, at, frame.size) {
@@ -94,11 +94,11 @@ pub fn read_layout4(s: &[u8]) -> Layout4Read
     let body = layout::read_layout(&s[at..end]);
     let a = body.answer;
     let LayoutAnswer::Value(summary) = a else {
-        return refused(layout::why_layout(a));
+        return refused(layout::fault_of_layout(a));
     };
     let p = xdr::read_bytes(s, c1, frame.size as usize);
     let ReadPart::Value(part, c2) = p else {
-        return refused(xdr::why_part(p));
+        return refused(xdr::fault_of_part(p));
     };
     if c2.at != s.len() {
         return refused(Fault::BytesLeftOver);
@@ -111,7 +111,7 @@ pub fn read_layout4(s: &[u8]) -> Layout4Read
     }
 }
 
-pub fn why_layout4(r: Layout4Answer) -> Fault
+pub fn fault_of_layout4(r: Layout4Answer) -> Fault
     ensures { λ e. ⌜ faultNumber e ≡ refusalIn (answerOfLayout4 r []) ⌝ }
 {
     match r {

@@ -25,7 +25,7 @@ satisfies Recalled (right.Recalled x) = true
 
 -- whether a segment of the iomode that meets the range has a right that passes the test
 unfoldable pub tableMeets : (Right → Bool) → Iomode → ℕ → ℕ → Table → Bool
-tableMeets p i lo hi t = (actsOn i READ && anyMeets p lo hi (listIn t READ)) || (actsOn i RW && anyMeets p lo hi (listIn t RW))
+tableMeets p i first last t = (actsOn i READ && anyMeets p first last (listIn t READ)) || (actsOn i RW && anyMeets p first last (listIn t RW))
 
 -- for each of the eight slots, whether a segment names it
 unfoldable pub namedSlots : Table → List Bool

@@ -57,7 +57,7 @@ fn hits(s: Segment, first: u64, last: u64, c: Condition) -> bool
 fn any_meets(g: Segments, first: u64, last: u64, c: Condition) -> bool
     ensures { λ r. ⌜ r ≡ anyMeets (satisfies c) first last (listOf g) ⌝ }
 {
-    let n = segments::used_places(g.count);
+    let n = segments::used_entries(g.count);
     let mut k: usize = 0;
     while k < n {
         let s = g.items[k];

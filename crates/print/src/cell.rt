@@ -1,12 +1,12 @@
 // Text in cells of one width.
-use crate::say;
-use crate::say_number;
+use crate::print_number;
+use crate::print_text;
 ghost use Rattle.io.specs.Digits.{Fewest};
 
-pub fn say_times(text: &[u8], n: u64) {
+pub fn print_times(text: &[u8], n: u64) {
     let mut i: u64 = 0;
     while i < n {
-        say(text);
+        print_text(text);
         i += 1;
     }
 }
@@ -20,10 +20,10 @@ pub fn digits(v: u64) -> u64
 }
 
 // A number at the right end of a cell.
-pub fn say_right(v: u64, width: u64) {
+pub fn print_right(v: u64, width: u64) {
     let n = digits(v);
     if n < width {
-        say_times(b" ", width - n);
+        print_times(b" ", width - n);
     }
-    say_number(v);
+    print_number(v);
 }

@@ -6,31 +6,31 @@ use base::Fault;
 use base::Refusal;
 use base::wide8;
 pub use cell::digits;
-pub use cell::say_right;
-pub use cell::say_times;
+pub use cell::print_right;
+pub use cell::print_times;
 use libc::STDOUT_FILENO;
 ghost use Prim.Native.Nat.{_≤_};
 ghost use lib.ListN.{length};
 
-pub fn say(text: &[u8]) {
+pub fn print_text(text: &[u8]) {
     io::write_all(STDOUT_FILENO, text);
 }
 
 // What stands between the members of a list, before member i.
-pub fn say_between(text: &[u8], i: usize) {
+pub fn print_between(text: &[u8], i: usize) {
     if i != 0 {
-        say(text);
+        print_text(text);
     }
 }
 
-pub fn say_number(v: u64) {
+pub fn print_number(v: u64) {
     io::print_decimal(STDOUT_FILENO, v);
 }
 
 // A number behind its name.
-pub fn say_field(name: &[u8], v: u64) {
-    say(name);
-    say_number(v);
+pub fn print_field(name: &[u8], v: u64) {
+    print_text(name);
+    print_number(v);
 }
 
 // Where the next '#' of a text stands, from a place on; its end where there is none.
@@ -48,7 +48,7 @@ fn mark_from(text: &[u8], from: usize) -> usize
 }
 
 // A text with a number in the place of each '#'.
-pub fn say_fields(text: &[u8], values: &[u64]) {
+pub fn print_fields(text: &[u8], values: &[u64]) {
     let mut from: usize = 0;
     let mut k: usize = 0;
     while k < values.len() {
@@ -56,31 +56,31 @@ pub fn say_fields(text: &[u8], values: &[u64]) {
         if mark < from {
             return;
         }
-        say_field(&text[from..mark], values[k]);
+        print_field(&text[from..mark], values[k]);
         from = mark + 1;
         k += 1;
     }
     if from < text.len() {
-        say(&text[from..]);
+        print_text(&text[from..]);
     }
 }
 
 // Each byte as two digits, eight bytes at a time while there are as many.
-pub fn say_hex(bytes: &[u8]) {
+pub fn print_hex(bytes: &[u8]) {
     let mut i: usize = 0;
     while i < bytes.len() {
         if bytes.len() - i < 8 {
             io::print_hex(STDOUT_FILENO, wide8(bytes[i]) as u64, 2);
             i += 1;
         } else {
-            io::print_hex(STDOUT_FILENO, numbers::be8(bytes, i), 16);
+            io::print_hex(STDOUT_FILENO, bytes::be8(bytes, i), 16);
             i += 8;
         }
     }
 }
 
 // The device id at a place; nothing where its bytes run out.
-pub fn say_device_id(bytes: &[u8], at: usize) {
+pub fn print_device_id(bytes: &[u8], at: usize) {
     if bytes.len() < at {
         return;
     }
@@ -88,15 +88,15 @@ pub fn say_device_id(bytes: &[u8], at: usize) {
         return;
     }
     let end = at + DEVICE_ID_SIZE;
-    say_hex(&bytes[at..end]);
+    print_hex(&bytes[at..end]);
 }
 
 // A refusal, behind what was asked.
-pub fn say_refused(e: Refusal) {
-    say_field(b" refused ", base::number(e) as u64);
+pub fn print_refused(e: Refusal) {
+    print_field(b" refused ", base::number(e) as u64);
 }
 
 // What a reader found wrong, likewise.
-pub fn say_fault(e: Fault) {
-    say_refused(Refusal::Fault(e));
+pub fn print_fault(e: Fault) {
+    print_refused(Refusal::Fault(e));
 }

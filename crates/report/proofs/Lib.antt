@@ -1,1 +1,6 @@
 pub mod ReportLaws
+pub mod EntryLaws
+pub mod StoringLaws
+pub mod Written
+pub mod ReadBack
+pub mod ReportRoundTrip

@@ -8,34 +8,34 @@ use lib.ListN.{length, set, length-map, length-take, length-drop}
 use lib.Seq.{append-snoc}
 use Rattle.base.specs.Answer.{Answer, accepted, refused, given, pick}
 use Rattle.base.proofs.ListLaws.{padded-next}
-use Rattle.numbers.specs.Numbers.{bytesFrom}
-use Rattle.numbers.proofs.NumberLaws.{length-bytes}
-use Rattle.xdr.specs.Res.{Res, ok, no, then, whole, manyAt, endOf}
+use Rattle.bytes.specs.Numbers.{bytesFrom}
+use Rattle.bytes.proofs.NumberLaws.{length-bytes}
+use Rattle.xdr.specs.Parsed.{Parsed, ok, fault, then, whole, manyAt, endOf}
 use Rattle.xdr.specs.Items.{countAt}
 use Rattle.xdr.specs.declared.Part.{Part}
-use Rattle.xdr.proofs.Accepted.{bytes-read, ran, same-value, same-place}
+use Rattle.xdr.proofs.Accepted.{bytes-read, then-inv, same-value, same-offset}
 use Rattle.xdr.proofs.EndLaws.{end-goes-on}
 use Rattle.xdr.proofs.ManyLaws.{first-then, none-then, refused-then}
-use Rattle.report.specs.Reports.{errorAt, headAt, Report, reportAt, reportBody, reportsAt}
-use Rattle.report.specs.Answers.{arraysFrom, blankHead, countOf, headFrom, headsOf, placesOf, reportsIn}
+use Rattle.report.specs.Reports.{errorAt, reportHeadAt, Report, reportAt, reportBody, reportsAt}
+use Rattle.report.specs.Answers.{arraysFrom, blankHead, countOf, headFrom, headsOf, offsetsOf, reportsIn}
 use Rattle.report.specs.declared.ReportHead.{ReportHead}
 use Rattle.report.specs.declared.head.HeadItem.{HeadItem}
 
 -- ---- where a report's errors end
 
-abbrev reported : ReportHead → ℕ → ℕ → Res Report
+abbrev reported : ReportHead → ℕ → ℕ → Parsed Report
 reported h p q = ok (record { head = h; errors-at = p }) q
 
 -- a report by the place where its errors end
 pub report-ends : (s : List ℕ) (at : ℕ)
-    → reportAt s at ≡ then (headAt s at) (λ h p. then (endOf (manyAt errorAt (h .errors) s p)) λ u q. reported h p q)
+    → reportAt s at ≡ then (reportHeadAt s at) (λ h p. then (endOf (manyAt errorAt (h .errors) s p)) λ u q. reported h p q)
 unfolding reportAt then
-report-ends s at = go (headAt s at) where
-  go : (x : Res ReportHead)
+report-ends s at = go (reportHeadAt s at) where
+  go : (x : Parsed ReportHead)
       → then x (λ h p. then (manyAt errorAt (h .errors) s p) λ es q. reported h p q)
       ≡ then x (λ h p. then (endOf (manyAt errorAt (h .errors) s p)) λ u q. reported h p q)
   go (ok h p) = sym (end-goes-on (manyAt errorAt (h .errors) s p) (λ q. reported h p q))
-  go (no n) = refl
+  go (fault n) = refl
 
 -- ---- the arrays
 
@@ -47,66 +47,66 @@ heads-next done i r h k =
     rw (map-append f done (r ∷ [])) (padded-next 8 blankHead (map f done) i (r .head) n k)
 
 pub places-next : (done : List Report) (i : ℕ) (r : Report) → length done ≡ i → i < 8
-    → set (placesOf done) i (r .errors-at) ≡ placesOf (done ++ (r ∷ []))
+    → set (offsetsOf done) i (r .errors-at) ≡ offsetsOf (done ++ (r ∷ []))
 places-next done i r h k =
     let f : Report → ℕ = λ r. r .errors-at in
     let n : length (map f done) ≡ i = length-map done f ∙ h in
     rw (map-append f done (r ∷ [])) (padded-next 8 0 (map f done) i (r .errors-at) n k)
 
-abbrev arrays : List Report → ℕ → Res (ℕ × (List ReportHead × List ℕ))
-arrays rs q = ok (length rs, (headsOf rs, placesOf rs)) q
+abbrev arrays : List Report → ℕ → Parsed (ℕ × (List ReportHead × List ℕ))
+arrays rs q = ok (length rs, (headsOf rs, offsetsOf rs)) q
 
 pub arrays-next : (done : List Report) (m : ℕ) (s : List ℕ) (at : ℕ) (r : Report) (p : ℕ) → 0 < m → reportAt s at ≡ ok r p
     → arraysFrom done (manyAt reportAt m s at) ≡ arraysFrom (done ++ (r ∷ [])) (manyAt reportAt (m - 1) s p)
 unfolding arraysFrom
 arrays-next done m s at r p h e = simp append-snoc (first-then reportAt m s at _ r p h e)
 
-pub arrays-refused : (done : List Report) (m : ℕ) (s : List ℕ) (at n : ℕ) → 0 < m → reportAt s at ≡ no n
-    → arraysFrom done (manyAt reportAt m s at) ≡ no n
+pub arrays-refused : (done : List Report) (m : ℕ) (s : List ℕ) (at n : ℕ) → 0 < m → reportAt s at ≡ fault n
+    → arraysFrom done (manyAt reportAt m s at) ≡ fault n
 unfolding arraysFrom
 arrays-refused done m s at n h e = refused-then reportAt m s at _ n h e
 
 pub arrays-done : (done : List Report) (m : ℕ) (s : List ℕ) (at : ℕ) → m ≡ 0
-    → arraysFrom done (manyAt reportAt m s at) ≡ ok (length done, (headsOf done, placesOf done)) at
+    → arraysFrom done (manyAt reportAt m s at) ≡ ok (length done, (headsOf done, offsetsOf done)) at
 unfolding arraysFrom
 arrays-done done m s at h = rw (none-then reportAt m s at _ h, append-nil done)
 
-pub arrays-no : (x : Res (List Report)) (n : ℕ) → arraysFrom [] x ≡ no n → x ≡ no n
+pub arrays-no : (x : Parsed (List Report)) (n : ℕ) → arraysFrom [] x ≡ fault n → x ≡ fault n
 unfolding arraysFrom then
 arrays-no (ok rs p) n h = let z : _≡_ {A = ℕ} 0 1 = cc in absurd (omega arith)
-arrays-no (no k) n h = let e : k ≡ n = cc in rw e
+arrays-no (fault k) n h = let e : k ≡ n = cc in rw e
 
-pub record Arrays (x : Res (List Report)) (n : ℕ) (hs : List ReportHead) (ps : List ℕ) (p : ℕ) : Type 0 where
+pub record Arrays (x : Parsed (List Report)) (n : ℕ) (hs : List ReportHead) (ps : List ℕ) (p : ℕ) : Type 0 where
   pub reports : List Report
   pub were : x ≡ ok reports p
   pub count : n ≡ length reports
   pub heads : hs ≡ headsOf reports
-  pub places : ps ≡ placesOf reports
+  pub offsets : ps ≡ offsetsOf reports
 
-pub arrays-ok : (x : Res (List Report)) (n : ℕ) (hs : List ReportHead) (ps : List ℕ) (p : ℕ) → arraysFrom [] x ≡ ok (n, (hs, ps)) p → Arrays x n hs ps p
+pub arrays-ok : (x : Parsed (List Report)) (n : ℕ) (hs : List ReportHead) (ps : List ℕ) (p : ℕ) → arraysFrom [] x ≡ ok (n, (hs, ps)) p → Arrays x n hs ps p
 unfolding arraysFrom then
 arrays-ok (ok rs q) n hs ps p h =
-    let e : _≡_ {A = ℕ × (List ReportHead × List ℕ)} (length rs, (headsOf rs, placesOf rs)) (n, (hs, ps)) = same-value h in
+    let e : _≡_ {A = ℕ × (List ReportHead × List ℕ)} (length rs, (headsOf rs, offsetsOf rs)) (n, (hs, ps)) = same-value h in
     record {
       reports = rs;
-      were = ap (ok rs) (same-place h);
+      were = ap (ok rs) (same-offset h);
       count = sym (ap (λ (x : ℕ × (List ReportHead × List ℕ)). x .0) e);
       heads = sym (ap (λ (x : ℕ × (List ReportHead × List ℕ)). x .1 .0) e);
-      places = sym (ap (λ (x : ℕ × (List ReportHead × List ℕ)). x .1 .1) e);
+      offsets = sym (ap (λ (x : ℕ × (List ReportHead × List ℕ)). x .1 .1) e);
     }
-arrays-ok (no k) n hs ps p h = let z : _≡_ {A = ℕ} 0 1 = cc in absurd (omega arith)
+arrays-ok (fault k) n hs ps p h = let z : _≡_ {A = ℕ} 0 1 = cc in absurd (omega arith)
 
 -- ---- the whole answer, by what the body is
 
 pub answer-refused : (b : Answer (List Report)) (n : ℕ) (a : Answer ℕ) (hs : List ReportHead) (ps : List ℕ) → b ≡ refused n
-    → (a ≡ refused n) × (hs ≡ headsOf []) × (ps ≡ placesOf [])
-    → (a ≡ countOf b) × (hs ≡ headsOf (reportsIn b)) × (ps ≡ placesOf (reportsIn b))
+    → (a ≡ refused n) × (hs ≡ headsOf []) × (ps ≡ offsetsOf [])
+    → (a ≡ countOf b) × (hs ≡ headsOf (reportsIn b)) × (ps ≡ offsetsOf (reportsIn b))
 unfolding countOf given
 answer-refused b n a hs ps e k = rw e k
 
 pub answer-accepted : (b : Answer (List Report)) (rs : List Report) (a : Answer ℕ) (hs : List ReportHead) (ps : List ℕ) → b ≡ accepted rs
-    → (a ≡ accepted (length rs)) × (hs ≡ headsOf rs) × (ps ≡ placesOf rs)
-    → (a ≡ countOf b) × (hs ≡ headsOf (reportsIn b)) × (ps ≡ placesOf (reportsIn b))
+    → (a ≡ accepted (length rs)) × (hs ≡ headsOf rs) × (ps ≡ offsetsOf rs)
+    → (a ≡ countOf b) × (hs ≡ headsOf (reportsIn b)) × (ps ≡ offsetsOf (reportsIn b))
 unfolding countOf given
 answer-accepted b rs a hs ps e k = rw e k
 
@@ -114,11 +114,11 @@ answer-accepted b rs a hs ps e k = rw e k
 pub body-ends : (s : List ℕ) → reportBody s ≡ whole s (then (reportsAt s 0) λ rs q. then (endOf (countAt 0 0 s q)) λ u z. ok rs z)
 unfolding reportBody then
 body-ends s = go (reportsAt s 0) where
-  go : (x : Res (List Report))
+  go : (x : Parsed (List Report))
       → whole s (then x λ rs q. then (countAt 0 0 s q) λ k z. ok rs z)
       ≡ whole s (then x λ rs q. then (endOf (countAt 0 0 s q)) λ u z. ok rs z)
   go (ok rs q) = ap (whole s) (sym (end-goes-on (countAt 0 0 s q) (λ z. ok rs z)))
-  go (no n) = refl
+  go (fault n) = refl
 
 -- the parts of an accepted body
 pub reports-accepted : (s : List ℕ) (at n p : ℕ) (rs : List Report) (q : ℕ) → countAt 0 8 s at ≡ ok n p → manyAt reportAt n s p ≡ ok rs q → reportsAt s at ≡ ok rs q
@@ -131,14 +131,14 @@ body-accepted s rs q z a b c = rw (body-ends s, a, b, eq-eqb z (length s) c)
 
 -- ---- an accepted report has a stateid of 16 bytes
 
-pub head-stateid : (s : List ℕ) (at : ℕ) (h : ReportHead) (p : ℕ) → headAt s at ≡ ok h p → length (h .stateid) ≡ 16
-unfolding headAt
+pub head-stateid : (s : List ℕ) (at : ℕ) (h : ReportHead) (p : ℕ) → reportHeadAt s at ≡ ok h p → length (h .stateid) ≡ 16
+unfolding reportHeadAt
 head-stateid s at h p e =
-    let a = ran _ _ _ _ e in
-    let b = ran _ _ _ _ (a .rest) in
-    let c = ran _ _ _ _ (b .rest) in
-    let d = ran _ _ _ _ (c .rest) in
-    let f = ran _ _ _ _ (d .rest) in
+    let a = then-inv _ _ _ _ e in
+    let b = then-inv _ _ _ _ (a .rest) in
+    let c = then-inv _ _ _ _ (b .rest) in
+    let d = then-inv _ _ _ _ (c .rest) in
+    let f = then-inv _ _ _ _ (d .rest) in
     let k : h .stateid ≡ bytesFrom 16 s (d .item .start) = ap (λ (x : ReportHead). x .stateid) (sym (same-value (f .rest))) in
     let w = bytes-read 16 s _ _ _ (d .first) in
     let i = ap (λ (x : Part). x .start) (w .value) in
@@ -147,8 +147,8 @@ head-stateid s at h p e =
 pub report-stateid : (s : List ℕ) (at : ℕ) (r : Report) (p : ℕ) → reportAt s at ≡ ok r p → length (r .head .stateid) ≡ 16
 unfolding reportAt
 report-stateid s at r p e =
-    let a = ran _ _ _ _ e in
-    let b = ran _ _ _ _ (a .rest) in
+    let a = then-inv _ _ _ _ e in
+    let b = then-inv _ _ _ _ (a .rest) in
     let k : a .item ≡ r .head = ap (λ (x : Report). x .head) (same-value (b .rest)) in
     ap (λ (h : ReportHead). length (h .stateid)) (sym k) ∙ head-stateid s at _ _ (a .first)
 

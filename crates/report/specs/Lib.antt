@@ -1,2 +1,5 @@
 pub mod Reports
 pub mod Answers
+pub mod Writing
+pub mod WriteAnswers
+pub mod ReportOffsets

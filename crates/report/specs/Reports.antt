@@ -1,5 +1,5 @@
--- Error reports, ff_layoutreturn4 of RFC 8435, 9.3, of ff_ioerr4 (9.1.1) and device_error4 (RFC 7862): "Report count (0 to 8), reports, then a
--- statistics count that must be 0 (else 8)."
+-- Error reports, ff_layoutreturn4 of RFC 8435, 9.3, of ff_ioerr4 (9.1.1) and device_error4 (RFC 7862): "Report count
+-- (0 to 8), reports, then a statistics count that must be 0 (else 8)."
 use Prim.Native.Nat.{ℕ, _+_}
 use mathlib.Core.List.{List}
 use mathlib.Core.Bool.{Bool, _&&_, _||_, not}
@@ -8,8 +8,8 @@ use lib.Dec.{eqb}
 use Rattle.base.specs.Answer.{Answer, pick}
 use Rattle.base.specs.Limits.{deviceIdSize, mostErrors, mostReports, stateidSize}
 use Rattle.base.specs.Ranges.{rangeLast}
-use Rattle.numbers.specs.Numbers.{bytesFrom}
-use Rattle.xdr.specs.Res.{Res, ok, no, then, manyAt, whole, asItem}
+use Rattle.bytes.specs.Numbers.{bytesFrom}
+use Rattle.xdr.specs.Parsed.{Parsed, ok, fault, then, manyAt, whole, asItem}
 use Rattle.xdr.specs.Items.{numAt, countAt, bytesAt}
 use Rattle.report.specs.declared.ErrorItem.{ErrorItem}
 use Rattle.report.specs.declared.ReportHead.{ReportHead}
@@ -19,25 +19,25 @@ unfoldable pub errorFits : ℕ → ℕ → Bool
 errorFits status operation = not (eqb status 0) && (eqb operation 5 || (eqb operation 25 || eqb operation 38))
 
 -- where status and operation stand in an error, from its start: "device id, status, operation"
-abbrev pub statusOffset : ℕ
-statusOffset = deviceIdSize
+abbrev pub errorStatusOffset : ℕ
+errorStatusOffset = deviceIdSize
 
-abbrev pub operationOffset : ℕ
-operationOffset = statusOffset + 4
+abbrev pub errorOperationOffset : ℕ
+errorOperationOffset = errorStatusOffset + 4
 
 -- "errors of device id, status, operation; an error is judged when all three are read"
-unfoldable pub errorAt : List ℕ → ℕ → Res ErrorItem
+unfoldable pub errorAt : List ℕ → ℕ → Parsed ErrorItem
 errorAt s at =
     then (bytesAt deviceIdSize s at) λ device p1.
     then (numAt 4 s p1) λ status p2.
     then (numAt 4 s p2) λ operation p3.
     pick (errorFits status operation)
     (ok (record { device = device .start; status = status; operation = operation }) p3)
-    (no 27)
+    (fault 27)
 
 -- "offset, length (the pair obeys the range rule, judged here), stateid, error count (1 to 16)"
-unfoldable pub headAt : List ℕ → ℕ → Res ReportHead
-headAt s at =
+unfoldable pub reportHeadAt : List ℕ → ℕ → Parsed ReportHead
+reportHeadAt s at =
     then (numAt 8 s at) λ offset p1.
     then (numAt 8 s p1) λ len p2.
     then (asItem (rangeLast offset len) p2) λ last p.
@@ -50,15 +50,16 @@ pub record Report : Type 0 where
   pub head : ReportHead
   pub errors-at : ℕ
 
--- "A report: offset, length .., stateid, error count (1 to 16), errors of ..": each error is judged, and where the first stands is kept
-unfoldable pub reportAt : List ℕ → ℕ → Res Report
+-- "A report: offset, length .., stateid, error count (1 to 16), errors of ..": each error is judged, and where the
+-- first stands is kept
+unfoldable pub reportAt : List ℕ → ℕ → Parsed Report
 reportAt s at =
-    then (headAt s at) λ h p.
+    then (reportHeadAt s at) λ h p.
     then (manyAt errorAt (h .errors) s p) λ es q.
     ok (record { head = h; errors-at = p }) q
 
 -- "Report count (0 to 8), reports"
-unfoldable pub reportsAt : List ℕ → ℕ → Res (List Report)
+unfoldable pub reportsAt : List ℕ → ℕ → Parsed (List Report)
 reportsAt s at = then (countAt 0 mostReports s at) λ n p. manyAt reportAt n s p
 
 -- "Report count (0 to 8), reports, then a statistics count that must be 0 (else 8). .. Nothing may follow the body."

@@ -1,12 +1,12 @@
 // The whole body: the reports, then the statistics count, and the end.
 use crate::ReportHead;
 use crate::head::ReadReport;
+use crate::head::fault_of_report;
 use crate::head::head_of;
 use crate::head::read_report;
-use crate::head::why_report;
 use base::Fault;
 use base::MOST_REPORTS;
-use base::REPORT_PLACES;
+use base::REPORT_ENTRIES;
 use base::STATEID_SIZE;
 use xdr::Cursor;
 use xdr::ReadEnd;
@@ -17,30 +17,31 @@ ghost use mathlib.Core.List.{[]};
 ghost use Rattle.base.specs.Limits.{mostReports};
 ghost use Rattle.base.specs.Answer.{refused as refusedBy};
 ghost use Rattle.base.specs.Refusals.{faultNumber};
-ghost use Rattle.xdr.specs.Answers.{resOfEnd};
+ghost use Rattle.xdr.specs.Answers.{parsedOfEnd};
 ghost use Rattle.xdr.specs.Items.{countAt};
-ghost use Rattle.xdr.specs.Res.{endOf, manyAt};
+ghost use Rattle.xdr.specs.Parsed.{endOf, manyAt};
 ghost use Rattle.report.specs.Reports.{reportAt, reportBody, reportsAt};
-ghost use Rattle.report.specs.Answers.{answerOfCount, blankHead, countOf, headsOf, placesOf, reportsIn, resOfArrays, arraysFrom};
+ghost use Rattle.report.specs.Answers.{answerOfCount, blankHead, countOf, headsOf, offsetsOf, reportsIn, parsedOfArrays, arraysFrom};
 
-pub enum ReportAnswer {
+pub enum ReportsAnswer {
     Count(u32),
     Refused(Fault),
 }
 
-// The reports' heads, and where the first error of each stands. Places past the count are blank, and so is each after a refusal.
+// The reports' heads, and where the first error of each stands. Places past the count are blank, and so is each after
+// a refusal.
 pub struct ReportsRead {
-    pub answer: ReportAnswer,
-    pub heads: [ReportHead; REPORT_PLACES],
-    pub errors_at: [usize; REPORT_PLACES],
+    pub answer: ReportsAnswer,
+    pub heads: [ReportHead; REPORT_ENTRIES],
+    pub errors_at: [usize; REPORT_ENTRIES],
 }
 
 // The first half of the body: how many reports it has, and the same arrays; `end` is the place behind the reports.
 pub struct Arrays {
     pub end: ReadEnd,
     pub count: u32,
-    pub heads: [ReportHead; REPORT_PLACES],
-    pub errors_at: [usize; REPORT_PLACES],
+    pub heads: [ReportHead; REPORT_ENTRIES],
+    pub errors_at: [usize; REPORT_ENTRIES],
 }
 
 fn blank_head() -> ReportHead
@@ -57,19 +58,19 @@ fn blank_head() -> ReportHead
 
 fn read_arrays(s: &[u8], c: Cursor, n: u32) -> Arrays
     requires { ⌜ n ≤ mostReports ⌝ }
-    ensures { λ r. ⌜ resOfArrays (r .end) (r .count) (r .heads) (r .«errors_at»)
+    ensures { λ r. ⌜ parsedOfArrays (r .end) (r .count) (r .heads) (r .«errors_at»)
         ≡ arraysFrom [] (manyAt reportAt n (now (s .entry)) (c .at)) ⌝ }
 {
     let blank = blank_head();
-    let mut heads = [blank; REPORT_PLACES];
-    let mut errors_at = [0usize; REPORT_PLACES];
+    let mut heads = [blank; REPORT_ENTRIES];
+    let mut errors_at = [0usize; REPORT_ENTRIES];
     let mut d = c;
     let mut i: usize = 0;
     let count = n as usize;
     while i < count {
         let r = read_report(s, d);
         let ReadReport::Value(item, first, e) = r else {
-            let why = why_report(r);
+            let why = fault_of_report(r);
             let end = ReadEnd::Refused(why);
             return Arrays {
                 end: end,
@@ -95,18 +96,18 @@ fn read_arrays(s: &[u8], c: Cursor, n: u32) -> Arrays
 
 // The first half: the count and the reports.
 fn reports_part(s: &[u8]) -> Arrays
-    ensures { λ r. ⌜ resOfArrays (r .end) (r .count) (r .heads) (r .«errors_at»)
+    ensures { λ r. ⌜ parsedOfArrays (r .end) (r .count) (r .heads) (r .«errors_at»)
         ≡ arraysFrom [] (reportsAt (now (s .entry)) 0) ⌝ }
 {
     let r = xdr::read_count(s, Cursor { at: 0 }, 0, MOST_REPORTS);
     let ReadU32::Value(n, c) = r else {
-        let end = ReadEnd::Refused(xdr::why_u32(r));
+        let end = ReadEnd::Refused(xdr::fault_of_u32(r));
         let blank = blank_head();
         return Arrays {
             end: end,
             count: 0,
-            heads: [blank; REPORT_PLACES],
-            errors_at: [0usize; REPORT_PLACES],
+            heads: [blank; REPORT_ENTRIES],
+            errors_at: [0usize; REPORT_ENTRIES],
         };
     };
     read_arrays(s, c, n)
@@ -114,23 +115,23 @@ fn reports_part(s: &[u8]) -> Arrays
 
 // Where the statistics behind the reports end: there must be none.
 fn statistics_end(s: &[u8], c: Cursor) -> ReadEnd
-    ensures { λ r. ⌜ resOfEnd r ≡ endOf (countAt 0 0 (now (s .entry)) (c .at)) ⌝ }
+    ensures { λ r. ⌜ parsedOfEnd r ≡ endOf (countAt 0 0 (now (s .entry)) (c .at)) ⌝ }
 {
     let r = xdr::read_count(s, c, 0, 0);
     let ReadU32::Value(_, d) = r else {
-        return ReadEnd::Refused(xdr::why_u32(r));
+        return ReadEnd::Refused(xdr::fault_of_u32(r));
     };
     ReadEnd::Value(d)
 }
 
 fn refused(e: Fault) -> ReportsRead
     ensures { λ r. ⌜ (answerOfCount (r .answer) ≡ refusedBy (faultNumber e)) × (r .heads ≡ headsOf [])
-        × (r .«errors_at» ≡ placesOf []) ⌝ }
+        × (r .«errors_at» ≡ offsetsOf []) ⌝ }
 {
     let blank = blank_head();
-    let heads = [blank; REPORT_PLACES];
-    let errors_at = [0usize; REPORT_PLACES];
-    let answer = ReportAnswer::Refused(e);
+    let heads = [blank; REPORT_ENTRIES];
+    let errors_at = [0usize; REPORT_ENTRIES];
+    let answer = ReportsAnswer::Refused(e);
     ReportsRead {
         answer: answer,
         heads: heads,
@@ -142,21 +143,21 @@ fn refused(e: Fault) -> ReportsRead
 pub fn read_reports(s: &[u8]) -> ReportsRead
     ensures { λ r. ⌜ (answerOfCount (r .answer) ≡ countOf (reportBody (now (s .entry))))
         × (r .heads ≡ headsOf (reportsIn (reportBody (now (s .entry)))))
-        × (r .«errors_at» ≡ placesOf (reportsIn (reportBody (now (s .entry))))) ⌝ }
+        × (r .«errors_at» ≡ offsetsOf (reportsIn (reportBody (now (s .entry))))) ⌝ }
 {
     let part = reports_part(s);
     let end = part.end;
     let ReadEnd::Value(c) = end else {
-        return refused(xdr::why_end(end));
+        return refused(xdr::fault_of_end(end));
     };
     let last = statistics_end(s, c);
     let ReadEnd::Value(d) = last else {
-        return refused(xdr::why_end(last));
+        return refused(xdr::fault_of_end(last));
     };
     if d.at != s.len() {
         return refused(Fault::BytesLeftOver);
     }
-    let answer = ReportAnswer::Count(part.count);
+    let answer = ReportsAnswer::Count(part.count);
     let heads = part.heads;
     let errors_at = part.errors_at;
     ReportsRead {

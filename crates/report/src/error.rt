@@ -8,10 +8,10 @@ use xdr::ReadPart;
 use xdr::ReadU32;
 ghost use mathlib.Core.Path.{_≡_};
 ghost use Rattle.base.specs.Refusals.{faultNumber};
-ghost use Rattle.xdr.specs.Res.{endOf, faultIn, manyAt};
+ghost use Rattle.xdr.specs.Parsed.{endOf, faultIn, manyAt};
 ghost use Rattle.report.specs.Reports.{errorFits, errorAt};
-ghost use Rattle.report.specs.Answers.{resOfError};
-ghost use Rattle.xdr.specs.Answers.{resOfEnd};
+ghost use Rattle.report.specs.Answers.{parsedOfError};
+ghost use Rattle.xdr.specs.Answers.{parsedOfEnd};
 
 pub enum ReadError {
     Value(ErrorItem, Cursor),
@@ -33,19 +33,19 @@ pub fn error_fits(status: u32, operation: u32) -> bool
 }
 
 pub fn read_error(s: &[u8], c: Cursor) -> ReadError
-    ensures { λ r. ⌜ resOfError r ≡ errorAt (now (s .entry)) (c .at) ⌝ }
+    ensures { λ r. ⌜ parsedOfError r ≡ errorAt (now (s .entry)) (c .at) ⌝ }
 {
     let rd = xdr::read_bytes(s, c, DEVICE_ID_SIZE);
     let ReadPart::Value(device, c1) = rd else {
-        return ReadError::Refused(xdr::why_part(rd));
+        return ReadError::Refused(xdr::fault_of_part(rd));
     };
     let rs = xdr::read_u32(s, c1);
     let ReadU32::Value(status, c2) = rs else {
-        return ReadError::Refused(xdr::why_u32(rs));
+        return ReadError::Refused(xdr::fault_of_u32(rs));
     };
     let ro = xdr::read_u32(s, c2);
     let ReadU32::Value(operation, c3) = ro else {
-        return ReadError::Refused(xdr::why_u32(ro));
+        return ReadError::Refused(xdr::fault_of_u32(ro));
     };
     if !error_fits(status, operation) {
         return ReadError::Refused(Fault::ErrorInvalid);
@@ -59,8 +59,8 @@ pub fn read_error(s: &[u8], c: Cursor) -> ReadError
     ReadError::Value(item, c3)
 }
 
-pub(crate) fn why_error(r: ReadError) -> Fault
-    ensures { λ e. ⌜ faultNumber e ≡ faultIn (resOfError r) ⌝ }
+pub(crate) fn fault_of_error(r: ReadError) -> Fault
+    ensures { λ e. ⌜ faultNumber e ≡ faultIn (parsedOfError r) ⌝ }
 {
     match r {
         ReadError::Refused(e) => e,
@@ -70,14 +70,14 @@ pub(crate) fn why_error(r: ReadError) -> Fault
 
 // n errors, one after the other: where they end.
 pub(crate) fn read_errors(s: &[u8], c: Cursor, n: u32) -> ReadEnd
-    ensures { λ r. ⌜ resOfEnd r ≡ endOf (manyAt errorAt n (now (s .entry)) (c .at)) ⌝ }
+    ensures { λ r. ⌜ parsedOfEnd r ≡ endOf (manyAt errorAt n (now (s .entry)) (c .at)) ⌝ }
 {
     let mut d = c;
     let mut left = n;
     while 0 < left {
         let r = read_error(s, d);
         let ReadError::Value(_, e) = r else {
-            return ReadEnd::Refused(why_error(r));
+            return ReadEnd::Refused(fault_of_error(r));
         };
         d = e;
         left -= 1;

@@ -2,8 +2,8 @@
 use crate::ReportHead;
 use crate::error::read_errors;
 use base::Fault;
-use base::Last;
 use base::MOST_ERRORS;
+use base::RangeEnd;
 use base::STATEID_SIZE;
 use xdr::Cursor;
 use xdr::ReadEnd;
@@ -13,13 +13,13 @@ use xdr::ReadU64;
 ghost use mathlib.Core.Path.{_≡_};
 ghost use mathlib.Core.List.{[]};
 ghost use Rattle.base.specs.Limits.{stateidSize};
-ghost use Rattle.xdr.specs.Res.{faultIn};
+ghost use Rattle.xdr.specs.Parsed.{faultIn};
 ghost use Rattle.base.specs.Refusals.{faultNumber};
 ghost use Prim.Native.Nat.{_+_, _≤_};
 ghost use lib.ListN.{length};
-ghost use Rattle.numbers.specs.Numbers.{bytesFrom};
-ghost use Rattle.report.specs.Reports.{headAt, reportAt};
-ghost use Rattle.report.specs.Answers.{headFrom, resOfHead, resOfReport};
+ghost use Rattle.bytes.specs.Numbers.{bytesFrom};
+ghost use Rattle.report.specs.Reports.{reportHeadAt, reportAt};
+ghost use Rattle.report.specs.Answers.{headFrom, parsedOfReportHead, parsedOfReport};
 
 // A `ReportHead` whose stateid is still in the bytes: `stateid` is its place.
 pub struct HeadItem {
@@ -29,7 +29,7 @@ pub struct HeadItem {
     pub errors: u32,
 }
 
-pub enum ReadHead {
+pub enum ReadReportHead {
     Value(HeadItem, Cursor),
     Refused(Fault),
 }
@@ -67,29 +67,29 @@ pub(crate) fn head_of(s: &[u8], item: HeadItem) -> ReportHead
     }
 }
 
-pub(crate) fn read_head(s: &[u8], c: Cursor) -> ReadHead
-    ensures { λ r. ⌜ resOfHead (now (s .entry)) r ≡ headAt (now (s .entry)) (c .at) ⌝ }
+pub(crate) fn read_report_head(s: &[u8], c: Cursor) -> ReadReportHead
+    ensures { λ r. ⌜ parsedOfReportHead (now (s .entry)) r ≡ reportHeadAt (now (s .entry)) (c .at) ⌝ }
 {
     let ro = xdr::read_u64(s, c);
     let ReadU64::Value(offset, c1) = ro else {
-        return ReadHead::Refused(xdr::why_u64(ro));
+        return ReadReportHead::Refused(xdr::fault_of_u64(ro));
     };
     let rl = xdr::read_u64(s, c1);
     let ReadU64::Value(length, c2) = rl else {
-        return ReadHead::Refused(xdr::why_u64(rl));
+        return ReadReportHead::Refused(xdr::fault_of_u64(rl));
     };
     // The pair obeys the range rule, not the rule for I/O requests.
     let last = base::range_last(offset, length);
-    let Last::At(_) = last else {
-        return ReadHead::Refused(base::why_last(last));
+    let RangeEnd::At(_) = last else {
+        return ReadReportHead::Refused(base::fault_of_range_end(last));
     };
     let rs = xdr::read_bytes(s, c2, STATEID_SIZE);
     let ReadPart::Value(part, c3) = rs else {
-        return ReadHead::Refused(xdr::why_part(rs));
+        return ReadReportHead::Refused(xdr::fault_of_part(rs));
     };
     let rn = xdr::read_count(s, c3, 1, MOST_ERRORS);
     let ReadU32::Value(errors, c4) = rn else {
-        return ReadHead::Refused(xdr::why_u32(rn));
+        return ReadReportHead::Refused(xdr::fault_of_u32(rn));
     };
     let stateid = part.start;
     let item = HeadItem {
@@ -98,36 +98,36 @@ pub(crate) fn read_head(s: &[u8], c: Cursor) -> ReadHead
         stateid: stateid,
         errors: errors,
     };
-    ReadHead::Value(item, c4)
+    ReadReportHead::Value(item, c4)
 }
 
 pub(crate) fn read_report(s: &[u8], c: Cursor) -> ReadReport
-    ensures { λ r. ⌜ resOfReport (now (s .entry)) r ≡ reportAt (now (s .entry)) (c .at) ⌝ }
+    ensures { λ r. ⌜ parsedOfReport (now (s .entry)) r ≡ reportAt (now (s .entry)) (c .at) ⌝ }
 {
-    let rh = read_head(s, c);
-    let ReadHead::Value(item, d) = rh else {
-        return ReadReport::Refused(why_head(rh));
+    let rh = read_report_head(s, c);
+    let ReadReportHead::Value(item, d) = rh else {
+        return ReadReport::Refused(fault_of_report_head(rh));
     };
     let errors = item.errors;
     let first = d.at;
     let re = read_errors(s, d, errors);
     let ReadEnd::Value(e) = re else {
-        return ReadReport::Refused(xdr::why_end(re));
+        return ReadReport::Refused(xdr::fault_of_end(re));
     };
     ReadReport::Value(item, first, e)
 }
 
-pub(crate) fn why_head(r: ReadHead) -> Fault
-    ensures { λ e. ⌜ faultNumber e ≡ faultIn (resOfHead [] r) ⌝ }
+pub(crate) fn fault_of_report_head(r: ReadReportHead) -> Fault
+    ensures { λ e. ⌜ faultNumber e ≡ faultIn (parsedOfReportHead [] r) ⌝ }
 {
     match r {
-        ReadHead::Refused(e) => e,
-        ReadHead::Value(_, _) => Fault::BytesRunOut,
+        ReadReportHead::Refused(e) => e,
+        ReadReportHead::Value(_, _) => Fault::BytesRunOut,
     }
 }
 
-pub(crate) fn why_report(r: ReadReport) -> Fault
-    ensures { λ e. ⌜ faultNumber e ≡ faultIn (resOfReport [] r) ⌝ }
+pub(crate) fn fault_of_report(r: ReadReport) -> Fault
+    ensures { λ e. ⌜ faultNumber e ≡ faultIn (parsedOfReport [] r) ⌝ }
 {
     match r {
         ReadReport::Refused(e) => e,

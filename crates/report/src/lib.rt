@@ -1,15 +1,21 @@
-// Error reports: the body of `ff_layoutreturn4`, read.
+// Error reports: the body of `ff_layoutreturn4`, read and written.
 mod body;
+mod check;
 mod error;
 mod head;
+mod put;
+mod write;
 
 use base::STATEID_SIZE;
-pub use body::ReportAnswer;
+pub use body::ReportsAnswer;
 pub use body::ReportsRead;
 pub use body::read_reports;
 pub use error::ReadError;
 pub use error::error_fits;
 pub use error::read_error;
+pub use put::put_error;
+pub use write::Written;
+pub use write::write_reports;
 
 // What stands before the errors of a report. `errors` is how many errors follow. It crosses to C as it is.
 #[repr(C)]
@@ -21,16 +27,16 @@ pub struct ReportHead {
 }
 
 // Where the items of a report's head stand, from its start: "offset, length .., stateid, error count".
-pub const LENGTH_OFFSET: usize = 8;
+pub const REPORT_LENGTH_OFFSET: usize = 8;
 
-pub const STATEID_OFFSET: usize = LENGTH_OFFSET + 8;
+pub const REPORT_STATEID_OFFSET: usize = REPORT_LENGTH_OFFSET + 8;
 
-pub const COUNT_OFFSET: usize = STATEID_OFFSET + STATEID_SIZE;
+pub const REPORT_COUNT_OFFSET: usize = REPORT_STATEID_OFFSET + STATEID_SIZE;
 
 // Where the items of an error stand, from its start: "device id, status, operation".
-pub const STATUS_OFFSET: usize = base::DEVICE_ID_SIZE;
+pub const ERROR_STATUS_OFFSET: usize = base::DEVICE_ID_SIZE;
 
-pub const OPERATION_OFFSET: usize = STATUS_OFFSET + 4;
+pub const ERROR_OPERATION_OFFSET: usize = ERROR_STATUS_OFFSET + 4;
 
 // One error. `device` is the place of its device id.
 pub struct ErrorItem {

@@ -11,14 +11,14 @@ use native.Mathlib.Omega.{arith}
 use lib.ListN.{length, getD}
 use Rattle.base.specs.Answer.{Answer, accepted, refused, given, pick}
 use Rattle.base.specs.Ranges.{requestLast}
-use Rattle.base.proofs.AnswerLaws.{gave, never-accepted, never-refused, same-answer, same-refusal}
+use Rattle.base.proofs.AnswerLaws.{given-inv, never-accepted, never-refused, same-answer, same-refusal}
 use Rattle.layout.specs.Layouts.{Layout}
 use Rattle.layout.proofs.LayoutLaws.{accepted-limits}
 use Rattle.segments.specs.declared.Right.the-variants.{Granted}
 use Rattle.segments.specs.declared.Table.{Table}
 use Rattle.segments.specs.Segments.{Mode, RW, blank, listIn, rightAt}
 use Rattle.store.specs.Store.{bodyIn, slotAt}
-use Rattle.reference.specs.Sound.{sound}
+use Rattle.soundness.specs.Sound.{sound}
 use Rattle.route.specs.Routes.{FillsUnit, Serving, iomodeFor, layoutIn, mirrorsNamed, pieceAt, routed, served}
 use Rattle.route.specs.Stripes.{pieceLength, stripeOf, unitRest}
 use Rattle.route.specs.declared.piece.Piece.{Piece}
@@ -66,8 +66,8 @@ module _ (write : Bool) (t : Table) (store : List ℕ) (offset len : ℕ) where
             → pick b (given (requestLast offset len) λ last. given (served write t store offset) λ v. accepted (pieceAt write store offset len v)) (refused 20) ≡ accepted p
             → Routed write t store offset len p
         go true h k =
-            let r = gave _ _ p k in
-            let s = gave _ _ p (r .rest) in
+            let r = given-inv _ _ p k in
+            let s = given-inv _ _ p (r .rest) in
             record {
               sound = h;
               last = r .value;
@@ -94,12 +94,12 @@ module _ (write : Bool) (t : Table) (store : List ℕ) (offset len : ℕ) where
     pub record Held : Type 0 where
       pub mode : Mode
       pub iomode : p .iomode ≡ iomodeFor mode
-      pub place : ℕ
-      pub placed : place < length (listIn t mode)
-      pub first : getD (listIn t mode) place blank .first ≤ offset
-      pub last : offset + p .length - 1 ≤ getD (listIn t mode) place blank .last
-      pub right : getD (listIn t mode) place blank .right ≡ Granted (p .slot)
-      pub ends : (p .length ≡ len) ⊎ ((getD (listIn t mode) place blank .last ≡ offset + p .length - 1) ⊎ FillsUnit store offset p)
+      pub index : ℕ
+      pub in-list : index < length (listIn t mode)
+      pub first : getD (listIn t mode) index blank .first ≤ offset
+      pub last : offset + p .length - 1 ≤ getD (listIn t mode) index blank .last
+      pub right : getD (listIn t mode) index blank .right ≡ Granted (p .slot)
+      pub ends : (p .length ≡ len) ⊎ ((getD (listIn t mode) index blank .last ≡ offset + p .length - 1) ⊎ FillsUnit store offset p)
       pub shown : rightAt (listIn t mode) offset ≡ Granted (p .slot)
       pub in-rw : write ≡ true → mode ≡ RW
 
@@ -114,13 +114,13 @@ module _ (write : Bool) (t : Table) (store : List ℕ) (offset len : ℕ) where
         let n : pieceLength (v .layout .summary .unit) (v .layout .summary .servers) (v .grant .last) offset len ≡ p .length = ap (λ (q : Piece). q .length) (r .piece) in
         let b = piece-in-rest (v .layout .summary .unit) (v .layout .summary .servers) (v .grant .last) offset len in
         let c : offset ≤ v .grant .last = f .inside in
-        let d : getD (listIn t (w .mode)) (f .place) blank .last ≡ v .grant .last = f .last in
+        let d : getD (listIn t (w .mode)) (f .index) blank .last ≡ v .grant .last = f .last in
         let s : Granted (record { 0 = v .grant .slot }) ≡ Granted (p .slot) = ap (λ (q : Piece). Granted (q .slot)) (r .piece) in
         record {
           mode = w .mode;
           iomode = ap (λ (q : Piece). q .iomode) (sym (r .piece)) ∙ w .iomode;
-          place = f .place;
-          placed = f .placed;
+          index = f .index;
+          in-list = f .in-list;
           first = f .first;
           last = omega arith;
           right = f .right ∙ s;

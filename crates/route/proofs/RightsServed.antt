@@ -15,11 +15,14 @@ use Rattle.segments.specs.declared.Segment.{Segment}
 use Rattle.segments.specs.declared.Table.{Table}
 use Rattle.segments.specs.Segments.{Mode, READ, RW, listIn, rightAt, within}
 use Rattle.store.specs.Store.{Slot, bodyIn, slotAt}
-use Rattle.reference.specs.Model.{granted, recalled}
-use Rattle.reference.specs.Sound.{isAccepted, slotsIn, sound}
-use Rattle.reference.specs.Claim.{rightIn, underSlot, withBody}
-use Rattle.reference.proofs.SoundParts.{holding, sounds}
-use Rattle.reference.proofs.SoundRights.{Under, under-at}
+use Rattle.model.specs.Model.{granted, recalled}
+use Rattle.base.specs.Answer.{isAccepted}
+use Rattle.model.specs.SlotsShown.{slotsIn}
+use Rattle.soundness.specs.Sound.{sound}
+use Rattle.model.specs.Claim.{rightIn, underSlot, withBody}
+use Rattle.soundness.proofs.SoundParts.{holding, sounds}
+use Rattle.model.proofs.SlotRights.{Under}
+use Rattle.soundness.proofs.SoundRights.{under-at}
 use Rattle.route.specs.Routes.{Serving, grantAt, grantIn, grantOf, iomodeFor, layoutIn, noReads, orElse, pieceAt, routed, served}
 use Rattle.route.specs.Rights.{ServedUnder, byGrant, readsByRw, servedByRights, servedOf}
 use Rattle.route.proofs.ServedLaws.{body-accepted}

@@ -15,7 +15,7 @@ use Rattle.segments.specs.declared.Table.{Table}
 use Rattle.segments.specs.Segments.{READ, RW, listOf, within}
 use Rattle.lookup.proofs.LookupLaws.{next-segment}
 use Rattle.store.specs.Store.{bodyIn, slotAt}
-use Rattle.reference.specs.Sound.{sound}
+use Rattle.soundness.specs.Sound.{sound}
 use Rattle.route.specs.Routes.{Grant, Serving, grantAt, grantIn, grantOf, isBarred, layoutIn, mirrorsNamed, orElse, pieceAt, routed, served, servingGrant}
 use Rattle.route.specs.Stripes.{pieceLength, stripeOf}
 use Rattle.route.specs.declared.piece.Piece.{Piece}

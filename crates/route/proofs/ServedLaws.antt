@@ -11,7 +11,7 @@ use Rattle.base.specs.Answer.{Answer, accepted, refused, given, pick}
 use Rattle.base.specs.Ranges.{largestSum, requestLast}
 use Rattle.base.specs.declared.iomode.Iomode.{Iomode}
 use Rattle.base.specs.declared.iomode.Iomode.the-variants.{ReadWrite}
-use Rattle.base.proofs.AnswerLaws.{both, gave, never-accepted, never-refused, same-answer, same-refusal}
+use Rattle.base.proofs.AnswerLaws.{both, given-inv, never-accepted, never-refused, same-answer, same-refusal}
 use Rattle.layout.specs.Layouts.{Layout, unitFits}
 use Rattle.layout.proofs.LayoutLaws.{accepted-limits}
 use Rattle.segments.specs.declared.Right.{Right}
@@ -20,22 +20,23 @@ use Rattle.segments.specs.declared.Segment.{Segment}
 use Rattle.segments.specs.declared.Table.{Table}
 use Rattle.segments.specs.Segments.{Mode, READ, RW, anyNames, blank, isNamed, isOfSlot, listIn, rightAt, within}
 use Rattle.store.specs.Store.{bodyIn, slotAt}
-use Rattle.reference.specs.Sound.{hasSlot, inOrder, isAccepted, sound}
-use Rattle.reference.proofs.SoundParts.{in-order, listed, named-in, named-sound, sounds}
+use Rattle.base.specs.Answer.{isAccepted}
+use Rattle.soundness.specs.Sound.{hasSlot, inOrder, sound}
+use Rattle.soundness.proofs.SoundParts.{in-order, listed, named-in, named-sound, sounds}
 use Rattle.route.specs.Answers.{slotAsked}
-use Rattle.soundness.specs.Judgements.{layoutJudged, layoutNamed}
+use Rattle.soundness.specs.Validations.{layoutIfSound, layoutNamed}
 use Rattle.route.specs.Routes.{Grant, Serving, grantAt, grantIn, grantOf, iomodeFor, isBarred, layoutIn, orElse, served, servingGrant}
 
 -- ---- a granted byte
 
 pub record Found (m : Iomode) (l : List Segment) (x : ℕ) (g : Grant) : Type 0 where
   pub iomode : g .iomode ≡ m
-  pub place : ℕ
-  pub placed : place < length l
-  pub first : getD l place blank .first ≤ x
+  pub index : ℕ
+  pub in-list : index < length l
+  pub first : getD l index blank .first ≤ x
   pub inside : x ≤ g .last
-  pub last : getD l place blank .last ≡ g .last
-  pub right : getD l place blank .right ≡ Granted (record { 0 = g .slot })
+  pub last : getD l index blank .last ≡ g .last
+  pub right : getD l index blank .right ≡ Granted (record { 0 = g .slot })
   pub shown : rightAt l x ≡ Granted (record { 0 = g .slot })
 
 granted-is : (m : Iomode) (r : Right) (n : ℕ) (g : Grant) → grantOf m r n ≡ accepted g
@@ -61,8 +62,8 @@ grant-found m (s ∷ l) x g e = go (within (s .first) (s .last) x) refl e (grant
         let e : s .last ≡ g .last = r .1 in
         record {
           iomode = r .2;
-          place = 0;
-          placed = omega arith;
+          index = 0;
+          in-list = omega arith;
           first = lo;
           inside = omega arith;
           last = e;
@@ -71,11 +72,11 @@ grant-found m (s ∷ l) x g e = go (within (s .first) (s .last) x) refl e (grant
         }
     go false h k rest =
         let f = rest k in
-        let d : f .place < length l = f .placed in
+        let d : f .index < length l = f .in-list in
         record {
           iomode = f .iomode;
-          place = suc (f .place);
-          placed = omega arith;
+          index = suc (f .index);
+          in-list = omega arith;
           first = f .first;
           inside = f .inside;
           last = f .last;
@@ -134,8 +135,8 @@ pub record Serves (write : Bool) (t : Table) (store : List ℕ) (x : ℕ) (v : S
 pub what-serves : (t : Table) (store : List ℕ) (x : ℕ) (write : Bool) (v : Serving) → served write t store x ≡ accepted v → Serves write t store x v
 unfolding served pick
 what-serves t store x write v h =
-    let r = gave _ _ v h in
-    let q = gave _ _ v (r .rest) in
+    let r = given-inv _ _ v h in
+    let q = given-inv _ _ v (r .rest) in
     go (r .value) (r .first) (q .value) (q .first) (isBarred write (r .value .iomode) (q .value .summary .flags)) (q .rest)
   where
     go : (g : Grant) → servingGrant write t x ≡ accepted g → (l : Layout) → layoutIn store (g .slot) ≡ accepted l → (b : Bool)
@@ -213,8 +214,8 @@ module _ (t : Table) (store : List ℕ) (s : sound t store ≡ true) where
   slot-named m x g e =
       let f = grant-found (iomodeFor m) (listIn t m) x g e in
       let w = sounds t store s in
-      let h : hasSlot (Granted (record { 0 = g .slot })) ≡ true = ap hasSlot (sym (f .right)) ∙ slot-at (listIn t m) (f .place) (listed t store w m .order) (f .placed) in
-      (ltb-true (g .slot) 8 h, named-in t store w m (g .slot) (named-at (listIn t m) (f .place) (g .slot) (f .placed) (f .right)))
+      let h : hasSlot (Granted (record { 0 = g .slot })) ≡ true = ap hasSlot (sym (f .right)) ∙ slot-at (listIn t m) (f .index) (listed t store w m .rising) (f .in-list) in
+      (ltb-true (g .slot) 8 h, named-in t store w m (g .slot) (named-at (listIn t m) (f .index) (g .slot) (f .in-list) (f .right)))
 
   -- the body under which a byte is granted is one that the layout body's reader accepts
   pub body-accepted : (m : Mode) (x : ℕ) (g : Grant) → grantAt t m x ≡ accepted g → isAccepted (layoutIn store (g .slot)) ≡ true
@@ -223,17 +224,17 @@ module _ (t : Table) (store : List ℕ) (s : sound t store ≡ true) where
       let n = slot-named m x g e in
       named-sound t store (sounds t store s) (g .slot) (n .0) (n .1) .read
 
-  -- and what the judgement reads in that slot
-  pub body-judged : (m : Mode) (x : ℕ) (g : Grant) → grantAt t m x ≡ accepted g → layoutJudged t store (g .slot) ≡ layoutIn store (g .slot)
-  unfolding layoutJudged layoutNamed layoutIn pick
-  body-judged m x g e = let n = slot-named m x g e in rw (s, lt-ltb (g .slot) 8 (n .0), n .1)
+  -- and what the validation reads in that slot
+  pub body-if-sound : (m : Mode) (x : ℕ) (g : Grant) → grantAt t m x ≡ accepted g → layoutIfSound t store (g .slot) ≡ layoutIn store (g .slot)
+  unfolding layoutIfSound layoutNamed layoutIn pick
+  body-if-sound m x g e = let n = slot-named m x g e in rw (s, lt-ltb (g .slot) 8 (n .0), n .1)
 
   -- what is read for the grant that serves is the layout in its slot, and it is accepted
   pub body-asked : (write : Bool) (x : ℕ) (g : Grant) (i : ℕ) → servingGrant write t x ≡ accepted g → i ≡ slotAsked (servingGrant write t x)
-      → layoutJudged t store i ≡ layoutIn store (g .slot)
+      → layoutIfSound t store i ≡ layoutIn store (g .slot)
   body-asked write x g i e f =
       let c = what-is-chosen t x write g e in
-      ap (λ (j : ℕ). layoutJudged t store j) (f ∙ ap slotAsked e) ∙ body-judged (c .mode) x g (c .grant)
+      ap (λ (j : ℕ). layoutIfSound t store j) (f ∙ ap slotAsked e) ∙ body-if-sound (c .mode) x g (c .grant)
 
   pub body-not-refused : (write : Bool) (x : ℕ) (g : Grant) (n : ℕ) → servingGrant write t x ≡ accepted g → layoutIn store (g .slot) ≡ refused n → ⊥
   body-not-refused write x g n e f =

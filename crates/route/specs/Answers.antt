@@ -11,11 +11,11 @@ use Rattle.route.specs.declared.rights.Grant.{Grant}
 use Rattle.route.specs.declared.rights.GrantAnswer.{GrantAnswer}
 use Rattle.route.specs.declared.rights.GrantAnswer.the-variants as answer
 
-abbrev pub grantSaid : Grant → routes.Grant
-grantSaid g = record { iomode = g .iomode; slot = g .slot .0; last = g .last }
+abbrev pub grantValue : Grant → routes.Grant
+grantValue g = record { iomode = g .iomode; slot = g .slot .0; last = g .last }
 
 abbrev pub answerOfGrant : GrantAnswer → Answer routes.Grant
-answerOfGrant (answer.Value g) = accepted (grantSaid g)
+answerOfGrant (answer.Value g) = accepted (grantValue g)
 answerOfGrant answer.Missing = refused 17
 
 -- the slot whose body is to be read: the grant's, and 0 where there is none
@@ -24,7 +24,7 @@ slotAsked (accepted g) = g .slot
 slotAsked (refused n) = 0
 
 abbrev pub servingOf : Serving → routes.Serving
-servingOf v = record { grant = grantSaid (v .grant); layout = record { summary = v .summary; starts = v .starts } }
+servingOf v = record { grant = grantValue (v .grant); layout = record { summary = v .summary; starts = v .starts } }
 
 abbrev pub answerOfLocated : Located → Answer Piece
 answerOfLocated (located.At p) = accepted p

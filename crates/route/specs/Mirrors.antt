@@ -2,13 +2,13 @@
 use Prim.Native.Nat.{ℕ, _+_, _-_, _^_}
 use mathlib.Core.List.{List}
 use Rattle.base.specs.Best.{best}
-use Rattle.numbers.specs.Numbers.{beAt}
-use Rattle.server.specs.Servers.{efficiencyOffset}
+use Rattle.bytes.specs.Numbers.{beAt}
+use Rattle.server.specs.Servers.{serverEfficiencyOffset}
 use Rattle.layout.specs.Layouts.{startAt}
 
 -- the efficiency of mirror m's server of a stripe
 unfoldable pub efficiencyOf : List ℕ → List ℕ → ℕ → ℕ → ℕ
-efficiencyOf body starts stripe m = beAt 4 body (startAt starts m stripe + efficiencyOffset)
+efficiencyOf body starts stripe m = beAt 4 body (startAt starts m stripe + serverEfficiencyOffset)
 
 -- "the highest efficiency, lowest number on a tie", by the servers of one stripe
 unfoldable pub bestMirror : List ℕ → List ℕ → ℕ → ℕ → ℕ

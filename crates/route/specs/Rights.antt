@@ -1,4 +1,5 @@
--- What serves an I/O, said of the rights of its first byte with their bodies, as demand 3 has them, and not of a table.
+-- What serves an I/O, said of the rights of its first byte with their bodies, as demand 3 has them, and not of a
+-- table.
 use Prim.Native.Nat.{ℕ}
 use mathlib.Core.Bool.{Bool, true, false}
 use mathlib.Core.List.{List}
@@ -7,7 +8,7 @@ use Rattle.base.specs.declared.iomode.Iomode.{Iomode}
 use Rattle.base.specs.declared.iomode.Iomode.the-variants.{Read, ReadWrite}
 use Rattle.layout.specs.Layouts.{layoutBody}
 use Rattle.store.specs.Store.{Body, bodyIn, slotAt}
-use Rattle.reference.specs.Model.{ByteRight, none, granted, recalled}
+use Rattle.model.specs.Model.{ByteRight, none, granted, recalled}
 use Rattle.route.specs.Routes.{noReads, orElse}
 use Rattle.route.specs.declared.piece.Piece.{Piece}
 
@@ -29,8 +30,8 @@ readsByRw rw =
     given (layoutBody (v .body)) λ l.
     pick (noReads (l .summary .flags)) (refused 17) (accepted v)
 
--- "A write needs RW granted. A read needs READ granted, or RW granted under a body without flag 4; where both serve at its first byte, READ is used."
--- read, rw: the byte's rights in the two iomodes
+-- "A write needs RW granted. A read needs READ granted, or RW granted under a body without flag 4; where both serve
+-- at its first byte, READ is used." read, rw: the byte's rights in the two iomodes
 abbrev pub servedByRights : Bool → ByteRight → ByteRight → Answer ServedUnder
 servedByRights true read rw = byGrant ReadWrite rw
 servedByRights false read rw = orElse (byGrant Read read) (readsByRw rw)

@@ -15,7 +15,7 @@ use Rattle.segments.specs.declared.Segment.{Segment}
 use Rattle.segments.specs.declared.Table.{Table}
 use Rattle.segments.specs.Segments.{Mode, READ, RW, listIn, within}
 use Rattle.store.specs.Store.{bodyIn, slotAt}
-use Rattle.reference.specs.Sound.{sound}
+use Rattle.soundness.specs.Sound.{sound}
 use Rattle.route.specs.Stripes.{pieceLength, stripeOf}
 use Rattle.route.specs.Mirrors.{allOf, bestMirror, only}
 use Rattle.route.specs.declared.piece.Piece.{Piece}
@@ -91,15 +91,17 @@ served write t store x =
 
 -- ---- the answer
 
--- "A read names one mirror: the highest efficiency, lowest number on a tie; each mirror is judged by the efficiency of its first data server
--- (ours). A write names all mirrors, as a set of bits, or with flag 8 only the mirror that this same rule picks in the write's own body."
+-- "A read names one mirror: the highest efficiency, lowest number on a tie; each mirror is judged by the efficiency
+-- of its first data server (ours). A write names all mirrors, as a set of bits, or with flag 8 only the mirror that
+-- this same rule picks in the write's own body."
 unfoldable pub mirrorsNamed : Bool → List ℕ → Layout → ℕ
 mirrorsNamed write body l =
     pick write
     (pick (oneMirror (l .summary .flags)) (only (bestMirror body (l .starts) (l .summary .mirrors) 0)) (allOf (l .summary .mirrors)))
     (only (bestMirror body (l .starts) (l .summary .mirrors) 0))
 
--- "The answer gives iomode, slot number, stripe number, offset, piece length and mirrors." "The offset on the server is the file offset."
+-- "The answer gives iomode, slot number, stripe number, offset, piece length and mirrors." "The offset on the server
+-- is the file offset."
 unfoldable pub pieceAt : Bool → List ℕ → ℕ → ℕ → Serving → Piece
 pieceAt write store offset len v = record {
   iomode = v .grant .iomode;

@@ -1,4 +1,5 @@
-// Where an I/O goes: the right at its first byte, then the stripe, the piece and the mirrors of the layout body under which that byte is held.
+// Where an I/O goes: the right at its first byte, then the stripe, the piece and the mirrors of the layout body under
+// which that byte is held.
 mod mirrors;
 mod piece;
 mod request;

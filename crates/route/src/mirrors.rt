@@ -15,7 +15,7 @@ fn efficiency(body: &[u8], starts: [u16; MOST_STARTS], stripe: StripeNumber, m: 
     ensures { λ r. ⌜ r ≡ efficiencyOf (now (body .entry)) starts (stripe .0) (m .0) ⌝ }
 {
     let start = layout::start_of(starts, m, stripe) as usize;
-    numbers::be4(body, start + server::EFFICIENCY_OFFSET)
+    bytes::be4(body, start + server::SERVER_EFFICIENCY_OFFSET)
 }
 
 // The mirror with the highest efficiency, the lowest number on a tie, by the servers of one stripe.

@@ -4,7 +4,8 @@ use base::Refusal;
 use base::SlotNumber;
 use base::StripeNumber;
 
-// The part of a request that one data server of each named mirror takes. The mirrors are a set of bits, bit 0 being mirror 0.
+// The part of a request that one data server of each named mirror takes. The mirrors are a set of bits, bit 0 being
+// mirror 0.
 pub struct Piece {
     pub iomode: Iomode,
     pub slot: SlotNumber,

@@ -9,8 +9,8 @@ use crate::rights::serving_grant;
 use crate::rights::slot_asked;
 use crate::stripes::piece_length;
 use crate::stripes::stripe_of;
-use base::Last;
 use base::MOST_STARTS;
+use base::RangeEnd;
 use base::Refusal;
 use layout::LayoutAnswer;
 use layout::Summary;
@@ -63,13 +63,13 @@ pub fn locate(t: Table, store: &[u8], write: bool, offset: u64, len: u64) -> Loc
     ensures { λ r. ⌜ answerOfLocated r ≡ routed write t (now (store .entry)) offset len ⌝ }
 {
     let h = serving_grant(write, t, offset);
-    let j = soundness::judge_and_read(t, store, slot_asked(h));
+    let j = soundness::validate_and_read(t, store, slot_asked(h));
     if !j.sound {
         return Located::Refused(Refusal::Unsound);
     }
     let e = base::request_last(offset, len);
-    let Last::At(_) = e else {
-        return Located::Refused(Refusal::Fault(base::why_last(e)));
+    let RangeEnd::At(_) = e else {
+        return Located::Refused(Refusal::Fault(base::fault_of_range_end(e)));
     };
     let GrantAnswer::Value(grant) = h else {
         return Located::Refused(Refusal::RightMissing);

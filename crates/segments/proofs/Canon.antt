@@ -126,10 +126,10 @@ pub canon-under : (lo : ℕ) (r : Right) (l : List Segment) → Canon lo r l →
 canon-under lo r l c = ord-under lo l (canon-ord lo r l c)
 
 -- at its bound the list does not go on with the right before it
-pub canon-turns : (lo : ℕ) (r : Right) (l : List Segment) → (r ≡ None → ⊥) → Canon lo r l → rightAt l lo ≡ r → ⊥
+pub canon-changes : (lo : ℕ) (r : Right) (l : List Segment) → (r ≡ None → ⊥) → Canon lo r l → rightAt l lo ≡ r → ⊥
 unfolding Canon
-canon-turns lo r [] n c e = n (sym e ∙ at-none lo)
-canon-turns lo r (s ∷ l) n c e = go (decLe (s .first) lo)
+canon-changes lo r [] n c e = n (sym e ∙ at-none lo)
+canon-changes lo r (s ∷ l) n c e = go (decLe (s .first) lo)
   where
     go : Dec (s .first ≤ lo) → ⊥
     go (yes h) = c .3 (omega arith) (sym (at-in s l lo h (omega arith)) ∙ e)
@@ -142,7 +142,7 @@ unfolding Canon
 canon-less a b r [] h c = tt
 canon-less a b r (s ∷ l) h c = (omega arith, c .1, c .2, λ e n. c .2 n, c .4)
 
--- another right before the list, from which the list turns
+-- another right before the list, from which the list steps
 pub canon-after : (lo : ℕ) (r q : Right) (s : Segment) (l : List Segment) → (s .first ≡ lo → s .right ≡ q → ⊥) → Canon lo r (s ∷ l) → Canon lo q (s ∷ l)
 unfolding Canon
 canon-after lo r q s l h c = (c .0, c .1, c .2, h, c .4)

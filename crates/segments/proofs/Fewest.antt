@@ -10,7 +10,7 @@ use Rattle.segments.specs.declared.Right.{Right}
 use Rattle.segments.specs.declared.Right.the-variants.{None}
 use Rattle.segments.specs.declared.Segment.{Segment}
 use Rattle.segments.specs.Segments.{rightAt, segmentsOf}
-use Rattle.segments.proofs.Canon.{Canon, Ord, Below, at-in, at-none, at-past, at-under, below-past, canon-ord, canon-turns, ord-under}
+use Rattle.segments.proofs.Canon.{Canon, Ord, Below, at-in, at-none, at-past, at-under, below-past, canon-ord, canon-changes, ord-under}
 use Rattle.segments.proofs.ScanLaws.{segments-canon, segments-past, segments-show}
 
 pub same-segment : (s t : Segment) → s .first ≡ t .first → s .last ≡ t .last → s .right ≡ t .right → s ≡ t
@@ -67,7 +67,7 @@ fewest lo₁ lo₂ r (s ∷ l) (t ∷ k) c o e =
     go (no h) d rest =
         let f : s .first ≡ t .first = first in
         absurd
-        (canon-turns (suc (s .last)) (s .right) l (c .2) (c .4)
+        (canon-changes (suc (s .last)) (s .right) l (c .2) (c .4)
         (sym (at-past s l (suc (s .last)) (omega arith))
         ∙ (e (suc (s .last)) ∙ (at-in t k (suc (s .last)) (omega arith) (omega arith) ∙ sym right))))
     go (yes h) (yes d) rest =

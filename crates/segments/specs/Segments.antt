@@ -61,7 +61,8 @@ rightAt (s ∷ l) x = pick (within (s .first) (s .last) x) (s .right) (rightAt l
 
 -- ---- the list worked out afresh, byte by byte
 
--- byte x with a right, in front of the segments of the bytes behind it: "Neighbours that touch with the same right and body are one segment."
+-- byte x with a right, in front of the segments of the bytes behind it: "Neighbours that touch with the same right
+-- and body are one segment."
 unfoldable pub withByte : ℕ → Right → List Segment → List Segment
 withByte x r [] = record { first = x; last = x; right = r } ∷ []
 withByte x r (s ∷ l) =
@@ -96,8 +97,8 @@ abbrev pub blank : Segment
 blank = record { first = 0; last = 0; right = None }
 
 -- "the table's other places blank"
-unfoldable pub inPlaces : List Segment → Segments
-inPlaces l = record { items = padded mostSegments blank l; count = length l }
+unfoldable pub inEntries : List Segment → Segments
+inEntries l = record { items = padded mostSegments blank l; count = length l }
 
 -- the segments in a table's places
 abbrev pub listOf : Segments → List Segment
@@ -111,7 +112,7 @@ abbrev pub listIn : Table → Mode → List Segment
 listIn t m = listOf (segmentsFor t m)
 
 unfoldable pub emptyTable : Table
-emptyTable = record { read = inPlaces []; rw = inPlaces [] }
+emptyTable = record { read = inEntries []; rw = inEntries [] }
 
 -- ---- slots that segments name
 
@@ -124,10 +125,11 @@ unfoldable pub anyNames : ℕ → List Segment → Bool
 anyNames i [] = false
 anyNames i (s ∷ l) = isOfSlot i (s .right) || anyNames i l
 
--- whether a segment that meets the range passes the test; the table's own question, which the reference model does not ask
+-- whether a segment that meets the range passes the test; the table's own question, which the reference model does
+-- not ask
 unfoldable pub anyMeets : (Right → Bool) → ℕ → ℕ → List Segment → Bool
-anyMeets p lo hi [] = false
-anyMeets p lo hi (s ∷ l) = (leb (s .first) hi && leb lo (s .last) && p (s .right)) || anyMeets p lo hi l
+anyMeets p first last [] = false
+anyMeets p first last (s ∷ l) = (leb (s .first) last && leb first (s .last) && p (s .right)) || anyMeets p first last l
 
 -- whether a segment of either iomode names slot i
 unfoldable pub isNamed : Table → ℕ → Bool

@@ -94,7 +94,7 @@ pub fn empty_table() -> Table
 }
 
 // How many of the 32 places a count can mean.
-pub fn used_places(count: usize) -> usize
+pub fn used_entries(count: usize) -> usize
     ensures { λ r. ⌜ r ≡ min count mostSegments ⌝ }
 {
     if count < MOST_SEGMENTS {

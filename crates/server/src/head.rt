@@ -7,10 +7,10 @@ use xdr::Cursor;
 use xdr::ReadPart;
 use xdr::ReadU32;
 ghost use mathlib.Core.Path.{_≡_};
-ghost use Rattle.xdr.specs.Res.{faultIn};
+ghost use Rattle.xdr.specs.Parsed.{faultIn};
 ghost use Rattle.base.specs.Refusals.{faultNumber};
-ghost use Rattle.server.specs.Servers.{headAt};
-ghost use Rattle.server.specs.Answers.{resOfHead};
+ghost use Rattle.server.specs.Servers.{serverHeadAt};
+ghost use Rattle.server.specs.Answers.{parsedOfServerHead};
 
 // Device id and stateid by their places.
 pub struct ServerHead {
@@ -20,31 +20,31 @@ pub struct ServerHead {
     pub handles: u32,
 }
 
-pub enum ReadHead {
+pub enum ReadServerHead {
     Value(ServerHead, Cursor),
     Refused(Fault),
 }
 
-pub(crate) fn read_head(s: &[u8], c: Cursor) -> ReadHead
-    ensures { λ r. ⌜ resOfHead r ≡ headAt (now (s .entry)) (c .at) ⌝ }
+pub(crate) fn read_server_head(s: &[u8], c: Cursor) -> ReadServerHead
+    ensures { λ r. ⌜ parsedOfServerHead r ≡ serverHeadAt (now (s .entry)) (c .at) ⌝ }
 {
     let d = xdr::read_bytes(s, c, DEVICE_ID_SIZE);
     let ReadPart::Value(device, c1) = d else {
-        return ReadHead::Refused(xdr::why_part(d));
+        return ReadServerHead::Refused(xdr::fault_of_part(d));
     };
     let e = xdr::read_u32(s, c1);
     let ReadU32::Value(efficiency, c2) = e else {
-        return ReadHead::Refused(xdr::why_u32(e));
+        return ReadServerHead::Refused(xdr::fault_of_u32(e));
     };
     let t = xdr::read_bytes(s, c2, STATEID_SIZE);
     let ReadPart::Value(stateid, c3) = t else {
-        return ReadHead::Refused(xdr::why_part(t));
+        return ReadServerHead::Refused(xdr::fault_of_part(t));
     };
     let n = xdr::read_count(s, c3, 1, MOST_FILEHANDLES);
     let ReadU32::Value(handles, c4) = n else {
-        return ReadHead::Refused(xdr::why_u32(n));
+        return ReadServerHead::Refused(xdr::fault_of_u32(n));
     };
-    ReadHead::Value(
+    ReadServerHead::Value(
         ServerHead {
             device: device.start,
             efficiency,
@@ -55,11 +55,11 @@ pub(crate) fn read_head(s: &[u8], c: Cursor) -> ReadHead
     )
 }
 
-pub(crate) fn why_head(r: ReadHead) -> Fault
-    ensures { λ e. ⌜ faultNumber e ≡ faultIn (resOfHead r) ⌝ }
+pub(crate) fn fault_of_server_head(r: ReadServerHead) -> Fault
+    ensures { λ e. ⌜ faultNumber e ≡ faultIn (parsedOfServerHead r) ⌝ }
 {
     match r {
-        ReadHead::Refused(e) => e,
-        ReadHead::Value(_, _) => Fault::BytesRunOut,
+        ReadServerHead::Refused(e) => e,
+        ReadServerHead::Value(_, _) => Fault::BytesRunOut,
     }
 }

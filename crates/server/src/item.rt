@@ -1,8 +1,8 @@
 // A data server as one item.
 use crate::handles::skip_handles;
-use crate::head::ReadHead;
-use crate::head::read_head;
-use crate::head::why_head;
+use crate::head::ReadServerHead;
+use crate::head::fault_of_server_head;
+use crate::head::read_server_head;
 use base::Fault;
 use base::LONGEST_NAME;
 use xdr::Cursor;
@@ -10,10 +10,10 @@ use xdr::Part;
 use xdr::ReadEnd;
 use xdr::ReadPart;
 ghost use mathlib.Core.Path.{_≡_};
-ghost use Rattle.xdr.specs.Res.{faultIn};
+ghost use Rattle.xdr.specs.Parsed.{faultIn};
 ghost use Rattle.base.specs.Refusals.{faultNumber};
 ghost use Rattle.server.specs.Servers.{serverAt};
-ghost use Rattle.server.specs.Answers.{resOfServer};
+ghost use Rattle.server.specs.Answers.{parsedOfServer};
 
 // Device id, stateid and the first filehandle's length by their places.
 pub struct Server {
@@ -32,23 +32,23 @@ pub enum ReadServer {
 }
 
 pub fn read_server(s: &[u8], c: Cursor) -> ReadServer
-    ensures { λ r. ⌜ resOfServer r ≡ serverAt (now (s .entry)) (c .at) ⌝ }
+    ensures { λ r. ⌜ parsedOfServer r ≡ serverAt (now (s .entry)) (c .at) ⌝ }
 {
-    let h = read_head(s, c);
-    let ReadHead::Value(head, c1) = h else {
-        return ReadServer::Refused(why_head(h));
+    let h = read_server_head(s, c);
+    let ReadServerHead::Value(head, c1) = h else {
+        return ReadServer::Refused(fault_of_server_head(h));
     };
     let n = skip_handles(s, c1, head.handles);
     let ReadEnd::Value(c2) = n else {
-        return ReadServer::Refused(xdr::why_end(n));
+        return ReadServer::Refused(xdr::fault_of_end(n));
     };
     let u = xdr::read_opaque(s, c2, 0, LONGEST_NAME);
     let ReadPart::Value(user, c3) = u else {
-        return ReadServer::Refused(xdr::why_part(u));
+        return ReadServer::Refused(xdr::fault_of_part(u));
     };
     let g = xdr::read_opaque(s, c3, 0, LONGEST_NAME);
     let ReadPart::Value(group, c4) = g else {
-        return ReadServer::Refused(xdr::why_part(g));
+        return ReadServer::Refused(xdr::fault_of_part(g));
     };
     ReadServer::Value(
         Server {
@@ -64,8 +64,8 @@ pub fn read_server(s: &[u8], c: Cursor) -> ReadServer
     )
 }
 
-pub fn why_server(r: ReadServer) -> Fault
-    ensures { λ e. ⌜ faultNumber e ≡ faultIn (resOfServer r) ⌝ }
+pub fn fault_of_server(r: ReadServer) -> Fault
+    ensures { λ e. ⌜ faultNumber e ≡ faultIn (parsedOfServer r) ⌝ }
 {
     match r {
         ReadServer::Refused(e) => e,

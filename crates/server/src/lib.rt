@@ -6,8 +6,8 @@ mod item;
 pub use handles::skip_handles;
 pub use item::ReadServer;
 pub use item::Server;
+pub use item::fault_of_server;
 pub use item::read_server;
-pub use item::why_server;
 
 // Where a server's efficiency stands, from the server's start: behind the device id.
-pub const EFFICIENCY_OFFSET: usize = base::DEVICE_ID_SIZE;
+pub const SERVER_EFFICIENCY_OFFSET: usize = base::DEVICE_ID_SIZE;

@@ -1,3 +1,3 @@
 pub mod ClearLaws
-pub mod HomeLaws
+pub mod ChoiceLaws
 pub mod SearchLaws

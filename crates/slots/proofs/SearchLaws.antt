@@ -5,13 +5,13 @@ use mathlib.Core.Bool.{Bool, true, false, not, _&&_}
 use mathlib.Core.List.{List, _∷_}
 use native.Mathlib.Omega.{arith}
 use Rattle.base.specs.Answer.{pick}
-use Rattle.numbers.specs.Numbers.{sameBytes}
+use Rattle.bytes.specs.Numbers.{sameBytes}
 use Rattle.store.specs.Store.{Body, Slot, empty, holds, bodyIn, slotAt, slotSet}
-use Rattle.reference.specs.Model.{inSlots, noneEmpty, slotOf}
-use Rattle.reference.specs.Sound.{slotsFrom}
-use Rattle.reference.proofs.SlotLaws.{next-slot, no-slot}
-use Rattle.slots.specs.declared.home.Home.the-variants.{Old, New, Nowhere}
-use Rattle.slots.specs.Slots.{clearedFrom, emptyHome, homeOf, lowestEmpty}
+use Rattle.model.specs.Model.{inSlots, noneEmpty, slotOf}
+use Rattle.model.specs.SlotsShown.{slotsFrom}
+use Rattle.model.proofs.ModelSlotLaws.{next-slot, no-slot}
+use Rattle.slots.specs.declared.choice.SlotChoice.the-variants.{Holding, Free, NoneLeft}
+use Rattle.slots.specs.Slots.{clearedFrom, freeChoice, slotChoice, lowestEmpty}
 
 -- ---- the lowest slot that no segment names
 
@@ -30,16 +30,16 @@ module _ (named : ℕ → Bool) (bytes : List ℕ) (i : ℕ) (n : NamedTo named 
       let b : lowestEmpty (slotsFrom named bytes (8 - i) i) ≡ suc (lowestEmpty (slotsFrom named bytes (8 - (i + 1)) (i + 1))) = rw (next-slot named bytes 8 i h, e) refl in
       record { none = n .none ∙ a; lowest = omega (arith, n .lowest, b) }
 
-  pub not-named : i < 8 → named i ≡ false → New (record { 0 = i }) ≡ emptyHome (slotsFrom named bytes 8 0)
-  unfolding noneEmpty lowestEmpty pick emptyHome
+  pub not-named : i < 8 → named i ≡ false → Free (record { 0 = i }) ≡ freeChoice (slotsFrom named bytes 8 0)
+  unfolding noneEmpty lowestEmpty pick freeChoice
   not-named h e =
       let a : noneEmpty (slotsFrom named bytes (8 - i) i) ≡ false = rw (next-slot named bytes 8 i h, e) refl in
       let b : lowestEmpty (slotsFrom named bytes (8 - i) i) ≡ 0 = rw (next-slot named bytes 8 i h, e) refl in
       let c : lowestEmpty (slotsFrom named bytes 8 0) ≡ i = omega (arith, n .lowest, b) in
       rw (n .none ∙ a, c) refl
 
-  pub named-all : 8 ≤ i → Nowhere ≡ emptyHome (slotsFrom named bytes 8 0)
-  unfolding noneEmpty pick emptyHome
+  pub named-all : 8 ≤ i → NoneLeft ≡ freeChoice (slotsFrom named bytes 8 0)
+  unfolding noneEmpty pick freeChoice
   named-all h =
       let a : noneEmpty (slotsFrom named bytes (8 - i) i) ≡ true = rw (no-slot named bytes 8 i h) refl in
       rw (n .none ∙ a) refl
@@ -48,10 +48,10 @@ module _ (named : ℕ → Bool) (bytes : List ℕ) (i : ℕ) (n : NamedTo named 
 
 pub record SoughtTo (b : Body) (named : ℕ → Bool) (bytes : List ℕ) (i : ℕ) : Type 0 where
   pub found : inSlots b (slotsFrom named bytes 8 0) ≡ inSlots b (slotsFrom named bytes (8 - i) i)
-  pub place : slotOf b (slotsFrom named bytes 8 0) ≡ i + slotOf b (slotsFrom named bytes (8 - i) i)
+  pub index : slotOf b (slotsFrom named bytes 8 0) ≡ i + slotOf b (slotsFrom named bytes (8 - i) i)
 
 pub sought-start : (b : Body) (named : ℕ → Bool) (bytes : List ℕ) → SoughtTo b named bytes 0
-sought-start b named bytes = record { found = refl; place = omega arith }
+sought-start b named bytes = record { found = refl; index = omega arith }
 
 module _ (b : Body) (named : ℕ → Bool) (bytes : List ℕ) (i : ℕ) (n : SoughtTo b named bytes i) where
   passed : (u v : Bool) (rest : List Slot) → sameBytes b (bodyIn (slotAt bytes i)) ≡ v → (u && v) ≡ false
@@ -66,7 +66,7 @@ module _ (b : Body) (named : ℕ → Bool) (bytes : List ℕ) (i : ℕ) (n : Sou
   sought-next h e =
       let p = passed (named i) (sameBytes b (bodyIn (slotAt bytes i))) (slotsFrom named bytes (8 - (i + 1)) (i + 1)) refl e in
       let a : slotOf b (slotsFrom named bytes (8 - i) i) ≡ suc (slotOf b (slotsFrom named bytes (8 - (i + 1)) (i + 1))) = ap (slotOf b) (next-slot named bytes 8 i h) ∙ p .1 in
-      record { found = n .found ∙ (ap (inSlots b) (next-slot named bytes 8 i h) ∙ p .0); place = omega (arith, n .place, a) }
+      record { found = n .found ∙ (ap (inSlots b) (next-slot named bytes 8 i h) ∙ p .0); index = omega (arith, n .index, a) }
 
   stands : (u v : Bool) (rest : List Slot) → sameBytes b (bodyIn (slotAt bytes i)) ≡ v → (u && v) ≡ true
       → (inSlots b (pick u (holds (bodyIn (slotAt bytes i))) empty ∷ rest) ≡ true) × (slotOf b (pick u (holds (bodyIn (slotAt bytes i))) empty ∷ rest) ≡ 0)
@@ -75,17 +75,17 @@ module _ (b : Body) (named : ℕ → Bool) (bytes : List ℕ) (i : ℕ) (n : Sou
   stands true false rest e f = absurd (let z : _≡_ {A = ℕ} 0 1 = cc in omega arith)
   stands false v rest e f = absurd (let z : _≡_ {A = ℕ} 0 1 = cc in omega arith)
 
-  pub sought-here : i < 8 → (named i && sameBytes b (bodyIn (slotAt bytes i))) ≡ true → Old (record { 0 = i }) ≡ homeOf b (slotsFrom named bytes 8 0)
-  unfolding homeOf pick
+  pub sought-here : i < 8 → (named i && sameBytes b (bodyIn (slotAt bytes i))) ≡ true → Holding (record { 0 = i }) ≡ slotChoice b (slotsFrom named bytes 8 0)
+  unfolding slotChoice pick
   sought-here h e =
       let p = stands (named i) (sameBytes b (bodyIn (slotAt bytes i))) (slotsFrom named bytes (8 - (i + 1)) (i + 1)) refl e in
       let f : inSlots b (slotsFrom named bytes 8 0) ≡ true = n .found ∙ (ap (inSlots b) (next-slot named bytes 8 i h) ∙ p .0) in
       let a : slotOf b (slotsFrom named bytes (8 - i) i) ≡ 0 = ap (slotOf b) (next-slot named bytes 8 i h) ∙ p .1 in
-      let c : slotOf b (slotsFrom named bytes 8 0) ≡ i = omega (arith, n .place, a) in
+      let c : slotOf b (slotsFrom named bytes 8 0) ≡ i = omega (arith, n .index, a) in
       rw (f, c) refl
 
-  pub sought-none : 8 ≤ i → emptyHome (slotsFrom named bytes 8 0) ≡ homeOf b (slotsFrom named bytes 8 0)
-  unfolding inSlots homeOf pick
+  pub sought-none : 8 ≤ i → freeChoice (slotsFrom named bytes 8 0) ≡ slotChoice b (slotsFrom named bytes 8 0)
+  unfolding inSlots slotChoice pick
   sought-none h =
       let a : inSlots b (slotsFrom named bytes (8 - i) i) ≡ false = rw (no-slot named bytes 8 i h) refl in
       rw (n .found ∙ a) refl

@@ -5,9 +5,9 @@ use mathlib.Core.List.{List, [], _∷_}
 use lib.ListN.{getD}
 use Rattle.base.specs.Answer.{pick}
 use Rattle.store.specs.Store.{Body, Slot, empty, holds, slotSet}
-use Rattle.reference.specs.Model.{inSlots, noneEmpty, slotOf}
-use Rattle.slots.specs.declared.home.Home.{Home}
-use Rattle.slots.specs.declared.home.Home.the-variants.{Old, New, Nowhere}
+use Rattle.model.specs.Model.{inSlots, noneEmpty, slotOf}
+use Rattle.slots.specs.declared.choice.SlotChoice.{SlotChoice}
+use Rattle.slots.specs.declared.choice.SlotChoice.the-variants.{Holding, Free, NoneLeft}
 
 -- which slots are named, by a list of truth values
 abbrev pub isSet : List Bool → ℕ → Bool
@@ -19,12 +19,12 @@ lowestEmpty [] = 0
 lowestEmpty (empty ∷ ss) = 0
 lowestEmpty (holds b ∷ ss) = suc (lowestEmpty ss)
 
-unfoldable pub emptyHome : List Slot → Home
-emptyHome ss = pick (noneEmpty ss) Nowhere (New (record { 0 = lowestEmpty ss }))
+unfoldable pub freeChoice : List Slot → SlotChoice
+freeChoice ss = pick (noneEmpty ss) NoneLeft (Free (record { 0 = lowestEmpty ss }))
 
 -- "A grant whose body is on the shelf uses that slot; otherwise the lowest unnamed one."
-unfoldable pub homeOf : Body → List Slot → Home
-homeOf b ss = pick (inSlots b ss) (Old (record { 0 = slotOf b ss })) (emptyHome ss)
+unfoldable pub slotChoice : Body → List Slot → SlotChoice
+slotChoice b ss = pick (inSlots b ss) (Holding (record { 0 = slotOf b ss })) (freeChoice ss)
 
 -- "A slot that no segment names is all zeros": of the k slots from slot i on, those that were named before an event
 -- and are not after it

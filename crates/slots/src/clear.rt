@@ -1,6 +1,6 @@
 // Slots zeroed once no segment names them.
 use base::SLOT_COUNT;
-use base::SLOT_PLACES;
+use base::SLOT_ENTRIES;
 use base::SlotNumber;
 ghost use mathlib.Core.Path.{_≡_};
 ghost use mathlib.Core.Bool.{_&&_, not};
@@ -23,7 +23,7 @@ fn clear_if_unnamed(was: bool, is: bool, i: SlotNumber, store: &mut [u8])
 }
 
 // Those that were named before an event and are not after it: all others are as they have to be.
-pub fn clear_unnamed(was: [bool; SLOT_PLACES], is: [bool; SLOT_PLACES], store: &mut [u8])
+pub fn clear_unnamed(was: [bool; SLOT_ENTRIES], is: [bool; SLOT_ENTRIES], store: &mut [u8])
     ensures { λ r. ⌜ now (store .exit) ≡ clearedFrom (isSet was) (isSet is) slotCount 0 (now (store .entry)) ⌝ }
 {
     let mut i: u32 = 0;

@@ -1,7 +1,7 @@
 // Slots as table and body store have them: where a granted body goes, and the slots that no segment names any more.
+mod choice;
 mod clear;
-mod home;
 
+pub use choice::SlotChoice;
+pub use choice::choose_slot;
 pub use clear::clear_unnamed;
-pub use home::Home;
-pub use home::find_home;

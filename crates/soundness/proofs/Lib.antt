@@ -1,2 +1,6 @@
-pub mod ListLaws
-pub mod SlotLaws
+pub mod SegmentLaws
+pub mod ValidSlotLaws
+pub mod SoundParts
+pub mod SoundRights
+pub mod SoundLaws
+pub mod FromSound

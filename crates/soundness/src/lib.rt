@@ -1,54 +1,54 @@
 // Whether a table and a body store, whatever they are, are sound.
-use base::SLOT_PLACES;
+use base::SLOT_ENTRIES;
 use base::STORE_SIZE;
 use base::SlotNumber;
 use segments::Table;
 ghost use mathlib.Core.Path.{_≡_};
 ghost use Rattle.layout.specs.Answers.{answerOfLayout, startsIn};
-ghost use Rattle.reference.specs.Sound.{sound};
-ghost use Rattle.soundness.specs.Judgements.{layoutJudged, namedJudged};
+ghost use Rattle.soundness.specs.Sound.{sound};
+ghost use Rattle.soundness.specs.Validations.{layoutIfSound, namedIfSound};
 
-mod alike;
+mod bodies;
+mod distinct;
 mod lists;
-mod slots;
 
-pub use slots::Judged;
+pub use bodies::Validation;
 
 // The verdict, and which slots segments name; of an unsound table none.
 pub struct Soundness {
-    pub named: [bool; SLOT_PLACES],
+    pub named: [bool; SLOT_ENTRIES],
     pub sound: bool,
 }
 
 // The verdict, and what the layout body in this slot reads as. The store's length is tested first, since the slots are
 // looked at by their places.
-pub fn judge_and_read(t: Table, store: &[u8], slot: SlotNumber) -> Judged
+pub fn validate_and_read(t: Table, store: &[u8], slot: SlotNumber) -> Validation
     ensures { λ r. ⌜ (r .sound ≡ sound t (now (store .entry)))
-        × (answerOfLayout (r .read .answer) (r .read .starts) ≡ layoutJudged t (now (store .entry)) (slot .0))
-        × (r .read .starts ≡ startsIn (layoutJudged t (now (store .entry)) (slot .0)))
-        × (r .named ≡ namedJudged t (now (store .entry))) ⌝ }
+        × (answerOfLayout (r .read .answer) (r .read .starts) ≡ layoutIfSound t (now (store .entry)) (slot .0))
+        × (r .read .starts ≡ startsIn (layoutIfSound t (now (store .entry)) (slot .0)))
+        × (r .named ≡ namedIfSound t (now (store .entry))) ⌝ }
 {
     if store.len() != STORE_SIZE {
-        return slots::unsound();
+        return bodies::unsound();
     }
     if !lists::lists_sound(t) {
-        return slots::unsound();
+        return bodies::unsound();
     }
     let named = lookup::named_slots(t);
-    let j = slots::judge_slots(named, store, slot);
+    let j = bodies::validate_slots(named, store, slot);
     if !j.sound {
-        return slots::unsound();
+        return bodies::unsound();
     }
-    if !alike::no_two_alike(named, store) {
-        return slots::unsound();
+    if !distinct::all_distinct(named, store) {
+        return bodies::unsound();
     }
     j
 }
 
-pub fn judge(t: Table, store: &[u8]) -> Soundness
-    ensures { λ r. ⌜ (r .sound ≡ sound t (now (store .entry))) × (r .named ≡ namedJudged t (now (store .entry))) ⌝ }
+pub fn validate(t: Table, store: &[u8]) -> Soundness
+    ensures { λ r. ⌜ (r .sound ≡ sound t (now (store .entry))) × (r .named ≡ namedIfSound t (now (store .entry))) ⌝ }
 {
-    let j = judge_and_read(t, store, SlotNumber(0));
+    let j = validate_and_read(t, store, SlotNumber(0));
     let named = j.named;
     Soundness {
         named,

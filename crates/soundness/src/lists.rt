@@ -7,7 +7,7 @@ use segments::Segments;
 use segments::Table;
 ghost use mathlib.Core.Path.{_≡_};
 ghost use mathlib.Core.Bool.{_&&_};
-ghost use Rattle.reference.specs.Sound.{apart, hasSlot, isBlank, isFit, segmentsSound};
+ghost use Rattle.soundness.specs.Sound.{apart, hasSlot, isBlank, isFit, segmentsSound};
 
 fn has_slot(r: Right) -> bool
     ensures { λ b. ⌜ b ≡ hasSlot r ⌝ }
@@ -58,7 +58,8 @@ fn is_blank(s: Segment) -> bool
     segments::same_right(Right::None, right)
 }
 
-// Each segment by itself, and with its neighbour behind it; then the places behind the last one, with no exit among them, which costs more than it saves.
+// Each segment by itself, and with its neighbour behind it; then the places behind the last one, with no exit among
+// them, which costs more than it saves.
 fn segments_sound(g: Segments) -> bool
     ensures { λ r. ⌜ r ≡ segmentsSound g ⌝ }
 {

@@ -6,10 +6,10 @@ use native.Mathlib.Omega.{arith}
 use borrow.Author.Tests.{le-leb, lt-leb}
 use lib.ListN.{length, replicate, length-append, length-replicate}
 use Rattle.base.specs.Answer.{pick}
-use Rattle.buffers.specs.Buffers.{stored}
-use Rattle.numbers.specs.Numbers.{leBytes}
-use Rattle.numbers.proofs.NumberLaws.{length-le}
-use Rattle.buffers.proofs.StoredLaws.{length-stored, stored-then, unfit-stored}
+use Rattle.bytes.specs.Buffers.{stored}
+use Rattle.bytes.specs.Numbers.{leBytes}
+use Rattle.bytes.proofs.NumberLaws.{length-le}
+use Rattle.bytes.proofs.StoredLaws.{length-stored, stored-then, unfit-stored}
 use Rattle.store.specs.Store.{Body, Slot, empty, holds, slotBytes, slotSet}
 use Rattle.store.proofs.SlotLaws.{length-empty, length-long, length-slot}
 

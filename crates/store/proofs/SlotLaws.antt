@@ -8,10 +8,10 @@ use borrow.Author.Tests.{le-leb}
 use lib.ListN.{length, drop, replicate, length-append, length-replicate}
 use lib.Seq.{take-at, drop-at}
 use Rattle.base.specs.Answer.{pick}
-use Rattle.numbers.specs.Numbers.{allZero, leAt, leBytes}
-use Rattle.numbers.proofs.NumberLaws.{le-round, length-le}
+use Rattle.bytes.specs.Numbers.{allZero, leAt, leBytes}
+use Rattle.bytes.proofs.NumberLaws.{le-round, length-le}
 use Rattle.store.specs.Store.{Body, empty, holds, bodyIn, kindIn, lengthIn, slotBytes}
-use Rattle.numbers.proofs.ZeroLaws.{zero-replicate}
+use Rattle.bytes.proofs.ZeroLaws.{zero-replicate}
 
 length-parts : (b : Body) → length (slotBytes (holds b)) ≡ 6 + (length b + (4090 - length b))
 unfolding slotBytes

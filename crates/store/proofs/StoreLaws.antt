@@ -7,8 +7,8 @@ use borrow.Author.Tests.{le-leb}
 use lib.ListN.{length, take, drop, getD, set, length-append}
 use lib.Seq.{drop-append-add, drop-cons, drop-nil, set-split, sets-eq, take-append-add, take-at, take-nil}
 use Rattle.base.specs.Answer.{pick}
-use Rattle.buffers.specs.Buffers.{stored}
-use Rattle.buffers.proofs.StoredLaws.{fits-stored}
+use Rattle.bytes.specs.Buffers.{stored}
+use Rattle.bytes.proofs.StoredLaws.{fits-stored}
 use Rattle.store.specs.Store.{Slot, empty, slotAt, slotBytes, slotSet, storeOf}
 
 -- each slot fills its 4,096 bytes

@@ -5,8 +5,8 @@ use lib.ListN.{length, replicate}
 use lib.Dec.{leb}
 use Rattle.base.specs.Limits.{slotHeadSize, slotSize, storeSize}
 use Rattle.base.specs.Answer.{pick}
-use Rattle.buffers.specs.Buffers.{stored}
-use Rattle.numbers.specs.Numbers.{bytesFrom, leAt, leBytes}
+use Rattle.bytes.specs.Buffers.{stored}
+use Rattle.bytes.specs.Numbers.{bytesFrom, leAt, leBytes}
 
 -- a layout body's bytes
 abbrev pub Body : Type 0
@@ -16,7 +16,8 @@ pub data Slot : Type 0 where
   empty : Slot
   holds : Body → Slot
 
--- "length (4 bytes, little-endian), kind (2 bytes, little-endian, value 4), body, zeros to the end. A slot that no segment names is all zeros."
+-- "length (4 bytes, little-endian), kind (2 bytes, little-endian, value 4), body, zeros to the end. A slot that no
+-- segment names is all zeros."
 unfoldable pub slotBytes : Slot → List ℕ
 slotBytes empty = replicate slotSize 0
 slotBytes (holds b) = leBytes 4 (length b) ++ (leBytes 2 4 ++ (b ++ replicate (slotSize - slotHeadSize - length b) 0))

@@ -23,14 +23,14 @@ pub fn lay_body(store: &mut [u8], i: SlotNumber, body: &[u8])
     if store.len() - at < SLOT_SIZE {
         return;
     }
-    buffers::put_le4(store, at, n as u32);
-    buffers::put_le2(store, at + 4, 4);
-    buffers::put_bytes(store, at + SLOT_HEAD_SIZE, body);
-    buffers::put_zeros(store, at + SLOT_HEAD_SIZE + n, ROOM - n);
+    bytes::put_le4(store, at, n as u32);
+    bytes::put_le2(store, at + 4, 4);
+    bytes::put_bytes(store, at + SLOT_HEAD_SIZE, body);
+    bytes::put_zeros(store, at + SLOT_HEAD_SIZE + n, ROOM - n);
 }
 
 pub fn clear_slot(store: &mut [u8], i: SlotNumber)
     ensures { λ r. ⌜ now (store .exit) ≡ slotSet (now (store .entry)) (i .0) empty ⌝ }
 {
-    buffers::put_zeros(store, start(i), SLOT_SIZE);
+    bytes::put_zeros(store, start(i), SLOT_SIZE);
 }

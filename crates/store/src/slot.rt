@@ -5,7 +5,7 @@ use base::SLOT_SIZE;
 use base::SlotNumber;
 ghost use mathlib.Core.Path.{_≡_};
 ghost use mathlib.Core.Bool.{_&&_};
-ghost use Rattle.numbers.specs.Numbers.{bytesFrom, sameBytes};
+ghost use Rattle.bytes.specs.Numbers.{bytesFrom, sameBytes};
 ghost use Rattle.store.specs.Store.{bodyIn, kindIn, lengthIn, slotAt};
 
 // The n bytes from a place; fewer where the bytes run out.
@@ -32,13 +32,13 @@ pub fn slot_bytes(store: &[u8], i: SlotNumber) -> &[u8]
 pub fn slot_length(slot: &[u8]) -> u32
     ensures { λ r. ⌜ r ≡ lengthIn (now (slot .entry)) ⌝ }
 {
-    numbers::le4(slot, 0)
+    bytes::le4(slot, 0)
 }
 
 pub fn slot_kind(slot: &[u8]) -> u32
     ensures { λ r. ⌜ r ≡ kindIn (now (slot .entry)) ⌝ }
 {
-    numbers::le2(slot, 4)
+    bytes::le2(slot, 4)
 }
 
 pub fn slot_body(slot: &[u8]) -> &[u8]
@@ -55,5 +55,5 @@ pub fn holds_body(named: bool, store: &[u8], i: SlotNumber, body: &[u8]) -> bool
     if !named {
         return false;
     }
-    numbers::same(body, slot_body(slot_bytes(store, i)))
+    bytes::same(body, slot_body(slot_bytes(store, i)))
 }

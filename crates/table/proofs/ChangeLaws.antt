@@ -12,7 +12,7 @@ use Rattle.segments.specs.declared.Segment.{Segment}
 use Rattle.segments.proofs.Canon.{granted-some}
 use Rattle.table.specs.declared.change.Change.{Change}
 use Rattle.table.specs.declared.change.Change.the-variants.{Grant, Clear, Recall}
-use Rattle.table.specs.Edits.{changedRight, inside, kept, middle, parts}
+use Rattle.table.specs.Edits.{changedRight, inside, unlessNone, middle, parts}
 
 -- ---- rights
 
@@ -34,7 +34,7 @@ middle-is-inside Clear k lo hi l = refl
 middle-is-inside Recall k lo hi l = refl
 
 pub clear-drops : (lo hi : ℕ) (s : Segment) → inside Clear lo hi s ≡ []
-unfolding inside kept pick
+unfolding inside unlessNone pick
 clear-drops lo hi s = go (leb (s .first) hi && leb lo (s .last))
   where
     go : (b : Bool) → pick {A = List Segment} b [] [] ≡ []

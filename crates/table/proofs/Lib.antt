@@ -1,6 +1,6 @@
 pub mod PushLists
-pub mod DraftLaws
+pub mod BuilderLaws
 pub mod ChangeLaws
-pub mod PartLaws
-pub mod TurnLaws
+pub mod FragmentLaws
+pub mod StepLaws
 pub mod TableLaws

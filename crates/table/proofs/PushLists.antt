@@ -49,10 +49,10 @@ pushSeg-keeps-length (a ∷ l) s = pushTo-keeps-length a l s
 
 -- ---- a push onto a list that stands in places
 
-last-in-places : (items : List Segment) (n : ℕ) (a : Segment) (l : List Segment) (e : Segment) → items ≡ padded 32 blank (a ∷ l) → n ≡ length (a ∷ l)
+last-in-entries : (items : List Segment) (n : ℕ) (a : Segment) (l : List Segment) (e : Segment) → items ≡ padded 32 blank (a ∷ l) → n ≡ length (a ∷ l)
     → getD items (n - 1) e ≡ getD (a ∷ l) (length l) e
 unfolding padded
-last-in-places items n a l e p q =
+last-in-entries items n a l e p q =
     let k : n - 1 ≡ length l = omega arith in
     rw (p, k) (List·getD-append (a ∷ l) (replicate (32 - length (a ∷ l)) blank) e (length l) (omega arith))
 
@@ -68,7 +68,7 @@ module _ (items : List Segment) (n : ℕ) (s e : Segment) where
   unfolding pushSeg
   push-joins [] p q z t = absurd (z q)
   push-joins (a ∷ l) p q z t =
-      let w = last-in-places items n a l e p q in
+      let w = last-in-entries items n a l e p q in
       let j = pushTo-joins a l s e (sym (ap (λ (x : Segment). touching x s) w) ∙ t) in
       let k : n - 1 ≡ length l = omega arith in (
         rw (w, j, p, k) (padded-set 32 blank (a ∷ l) (length l) (joined (getD (a ∷ l) (length l) e) s) (omega arith)),
@@ -80,7 +80,7 @@ module _ (items : List Segment) (n : ℕ) (s e : Segment) where
   unfolding pushSeg
   push-appends [] p q z t = absurd (z q)
   push-appends (a ∷ l) p q z t =
-      let w = last-in-places items n a l e p q in
+      let w = last-in-entries items n a l e p q in
       let j = pushTo-appends a l s e (sym (ap (λ (x : Segment). touching x s) w) ∙ t) in
       (λ r. rw (j, p, q) (padded-next 32 blank (a ∷ l) (length (a ∷ l)) s refl (omega arith)), rw (j, length-append (a ∷ l) (s ∷ []), q))
 

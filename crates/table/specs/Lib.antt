@@ -1,2 +1,2 @@
 pub mod Edits
-pub mod Drafts
+pub mod Builders

@@ -1,7 +1,7 @@
 // An edit of one of a table's lists, where the edit's iomode acts on it.
+use crate::builder;
 use crate::change::Change;
 use crate::change::Edited;
-use crate::draft;
 use segments::Segments;
 use segments::Span;
 ghost use mathlib.Core.Path.{_≡_};
@@ -20,8 +20,8 @@ pub fn edit_list(g: Segments, i: u32, c: Change, s: Span) -> Edited
         };
     }
     let items = g.items;
-    let n = segments::used_places(g.count);
-    let r = draft::draft_of(items, n, c, s.first, s.last);
+    let n = segments::used_entries(g.count);
+    let r = builder::build(items, n, c, s.first, s.last);
     if r.full {
         return Edited {
             segments: g,

@@ -1,10 +1,10 @@
 // The edits of a table's lists: the bytes of a range granted, cleared or recalled.
+mod builder;
 mod change;
-mod draft;
 mod edit;
-mod part;
-mod place;
-mod turn;
+mod fragment;
+mod placement;
+mod step;
 
 pub use change::Change;
 pub use change::Edited;

@@ -3,6 +3,6 @@ mod locate_case;
 mod store_case;
 mod table_case;
 
-pub use locate_case::say_locate;
-pub use store_case::say_store;
-pub use table_case::say_table;
+pub use locate_case::print_locate;
+pub use store_case::print_store;
+pub use table_case::print_table;

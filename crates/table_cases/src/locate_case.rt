@@ -1,20 +1,20 @@
 // Where an I/O goes.
-use print::say;
-use print::say_fields;
-use print::say_refused;
+use print::print_fields;
+use print::print_refused;
+use print::print_text;
 use route::Located;
 use route::Piece;
 use segments::Table;
 
-fn say_name(write: bool) {
+fn print_name(write: bool) {
     if write {
-        say(b"write-at");
+        print_text(b"write-at");
         return;
     }
-    say(b"read-at");
+    print_text(b"read-at");
 }
 
-fn say_piece(p: Piece) {
+fn print_piece(p: Piece) {
     let iomode = p.iomode;
     let slot = p.slot;
     let stripe = p.stripe;
@@ -26,27 +26,27 @@ fn say_piece(p: Piece) {
         p.length,
         p.mirrors as u64,
     ];
-    say_fields(
+    print_fields(
         b" iomode=# slot=# stripe=# offset=# length=# mirrors=#",
         &values,
     );
 }
 
-fn say_located(write: bool, l: Located) {
-    say_name(write);
+fn print_located(write: bool, l: Located) {
+    print_name(write);
     match l {
-        Located::Refused(e) => say_refused(e),
-        Located::At(p) => say_piece(p),
+        Located::Refused(e) => print_refused(e),
+        Located::At(p) => print_piece(p),
     }
 }
 
-// The payload has offset and length. The core is lent the store's first bytes, as many as are borrowed.
-pub fn say_locate(write: bool, payload: &[u8], table: Table, store: &[u8], borrowed: usize) {
+// The payload has offset and length. The core borrows the store's first bytes, as many as are borrowed.
+pub fn print_locate(write: bool, payload: &[u8], table: Table, store: &[u8], borrowed: usize) {
     if store.len() < borrowed {
         return;
     }
-    let offset = numbers::le8(payload, 0);
-    let len = numbers::le8(payload, 8);
+    let offset = bytes::le8(payload, 0);
+    let len = bytes::le8(payload, 8);
     let l = route::locate(table, &store[..borrowed], write, offset, len);
-    say_located(write, l);
+    print_located(write, l);
 }

@@ -2,8 +2,8 @@
 use base::SLOT_COUNT;
 use base::SlotNumber;
 use base::wide8;
-use print::say;
-use print::say_fields;
+use print::print_fields;
+use print::print_text;
 
 // Below 2^32, and a prime.
 const MODULUS: u64 = 4294967291;
@@ -18,17 +18,17 @@ fn checksum(s: &[u8]) -> u64 {
     c
 }
 
-fn say_slot(store: &[u8], i: u32) {
+fn print_slot(store: &[u8], i: u32) {
     let slot = store::slot_bytes(store, SlotNumber(i));
-    let values = [numbers::le4(slot, 0) as u64, checksum(slot)];
-    say_fields(b" #:#", &values);
+    let values = [bytes::le4(slot, 0) as u64, checksum(slot)];
+    print_fields(b" #:#", &values);
 }
 
-pub fn say_store(store: &[u8]) {
-    say(b"shelf");
+pub fn print_store(store: &[u8]) {
+    print_text(b"shelf");
     let mut i: u32 = 0;
     while i < SLOT_COUNT {
-        say_slot(store, i);
+        print_slot(store, i);
         i += 1;
     }
 }

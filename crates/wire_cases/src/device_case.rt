@@ -1,14 +1,14 @@
 // A device body.
-use base::ADDRESS_PLACES;
-use base::VERSION_PLACES;
+use base::ADDRESS_ENTRIES;
+use base::VERSION_ENTRIES;
+use device::Address;
 use device::DeviceAnswer;
-use device_version::Version;
-use netaddr::Address;
-use netaddr::NetidClass;
-use print::say;
-use print::say_between;
-use print::say_fault;
-use print::say_fields;
+use device::NetidClass;
+use device::Version;
+use print::print_between;
+use print::print_fault;
+use print::print_fields;
+use print::print_text;
 
 fn is_of_six(class: NetidClass) -> bool {
     match class {
@@ -17,39 +17,39 @@ fn is_of_six(class: NetidClass) -> bool {
     }
 }
 
-fn say_class(class: NetidClass) {
+fn print_class(class: NetidClass) {
     match class {
-        NetidClass::Tcp | NetidClass::Tcp6 => say(b"tcp"),
-        NetidClass::Udp | NetidClass::Udp6 => say(b"udp"),
-        NetidClass::Rdma | NetidClass::Rdma6 => say(b"rdma"),
-        NetidClass::Other => say(b"other"),
+        NetidClass::Tcp | NetidClass::Tcp6 => print_text(b"tcp"),
+        NetidClass::Udp | NetidClass::Udp6 => print_text(b"udp"),
+        NetidClass::Rdma | NetidClass::Rdma6 => print_text(b"rdma"),
+        NetidClass::Other => print_text(b"other"),
     }
 }
 
-fn say_address(a: Address) {
+fn print_address(a: Address) {
     let class = a.class;
     let text = a.text;
-    say_class(class);
+    print_class(class);
     if is_of_six(class) {
-        say(b"6");
+        print_text(b"6");
     }
     let values = [text.start as u64, text.len as u64];
-    say_fields(b":#+#", &values);
+    print_fields(b":#+#", &values);
 }
 
-fn say_addresses(addresses: [Address; ADDRESS_PLACES], count: u32) {
+fn print_addresses(addresses: [Address; ADDRESS_ENTRIES], count: u32) {
     let mut i: usize = 0;
-    while i < ADDRESS_PLACES {
+    while i < ADDRESS_ENTRIES {
         if count as usize <= i {
             return;
         }
-        say_between(b",", i);
-        say_address(addresses[i]);
+        print_between(b",", i);
+        print_address(addresses[i]);
         i += 1;
     }
 }
 
-fn say_version(v: Version) {
+fn print_version(v: Version) {
     let values = [
         v.version as u64,
         v.minor as u64,
@@ -57,34 +57,34 @@ fn say_version(v: Version) {
         v.wsize as u64,
         v.tight as u64,
     ];
-    say_fields(b"#.#:#:#:#", &values);
+    print_fields(b"#.#:#:#:#", &values);
 }
 
-fn say_versions(versions: [Version; VERSION_PLACES], count: u32) {
+fn print_versions(versions: [Version; VERSION_ENTRIES], count: u32) {
     let mut i: usize = 0;
-    while i < VERSION_PLACES {
+    while i < VERSION_ENTRIES {
         if count as usize <= i {
             return;
         }
-        say_between(b",", i);
-        say_version(versions[i]);
+        print_between(b",", i);
+        print_version(versions[i]);
         i += 1;
     }
 }
 
-pub fn say_device(payload: &[u8]) {
+pub fn print_device(payload: &[u8]) {
     let got = device::read_device(payload);
     let answer = got.answer;
     let addresses = got.addresses;
     let versions = got.versions;
-    say(b"device");
+    print_text(b"device");
     match answer {
-        DeviceAnswer::Refused(e) => say_fault(e),
+        DeviceAnswer::Refused(e) => print_fault(e),
         DeviceAnswer::Counts(m, k) => {
-            say(b" addresses=");
-            say_addresses(addresses, m);
-            say(b" versions=");
-            say_versions(versions, k);
+            print_text(b" addresses=");
+            print_addresses(addresses, m);
+            print_text(b" versions=");
+            print_versions(versions, k);
         }
     }
 }

@@ -2,17 +2,17 @@
 mod bind_case;
 mod device_case;
 mod form;
+mod id;
 mod layout4_case;
 mod layout_case;
 mod report_read_case;
 mod report_write_case;
-mod sixteen;
 
-pub use bind_case::say_bind;
-pub use device_case::say_device;
+pub use bind_case::print_bind;
+pub use device_case::print_device;
 pub use form::is_bind;
 pub use form::is_report_write;
-pub use layout_case::say_layout;
-pub use layout4_case::say_layout4;
-pub use report_read_case::say_report_read;
-pub use report_write_case::say_report_write;
+pub use layout_case::print_layout;
+pub use layout4_case::print_layout4;
+pub use report_read_case::print_report_read;
+pub use report_write_case::print_report_write;

@@ -1,78 +1,78 @@
 // Error reports that are read.
-use base::REPORT_PLACES;
-use print::say;
-use print::say_between;
-use print::say_device_id;
-use print::say_fault;
-use print::say_field;
-use print::say_fields;
-use print::say_hex;
+use base::REPORT_ENTRIES;
+use print::print_between;
+use print::print_device_id;
+use print::print_fault;
+use print::print_field;
+use print::print_fields;
+use print::print_hex;
+use print::print_text;
 use report::ErrorItem;
 use report::ReadError;
-use report::ReportAnswer;
 use report::ReportHead;
+use report::ReportsAnswer;
 use xdr::Cursor;
 
-fn say_error(payload: &[u8], e: ErrorItem) {
-    say_device_id(payload, e.device);
+fn print_error(payload: &[u8], e: ErrorItem) {
+    print_device_id(payload, e.device);
     let values = [e.status as u64, e.operation as u64];
-    say_fields(b"/#/#", &values);
+    print_fields(b"/#/#", &values);
 }
 
-fn say_errors(payload: &[u8], first: usize, count: u32) {
+fn print_errors(payload: &[u8], first: usize, count: u32) {
     let mut c = Cursor { at: first };
     let mut i: usize = 0;
     while i < count as usize {
         let ReadError::Value(e, d) = report::read_error(payload, c) else {
             return;
         };
-        say_between(b"+", i);
-        say_error(payload, e);
+        print_between(b"+", i);
+        print_error(payload, e);
         c = d;
         i += 1;
     }
 }
 
-fn say_head(head: ReportHead) {
+fn print_head(head: ReportHead) {
     let stateid = head.stateid;
     let values = [head.offset, head.length];
-    say_fields(b" offset=#,length=#,stateid=", &values);
-    say_hex(&stateid);
+    print_fields(b" offset=#,length=#,stateid=", &values);
+    print_hex(&stateid);
 }
 
-fn say_report(payload: &[u8], head: ReportHead, first: usize) {
-    say_head(head);
-    say(b",errors=");
-    say_errors(payload, first, head.errors);
+fn print_report(payload: &[u8], head: ReportHead, first: usize) {
+    print_head(head);
+    print_text(b",errors=");
+    print_errors(payload, first, head.errors);
 }
 
-fn say_reports(
+fn print_reports(
     payload: &[u8],
-    heads: [ReportHead; REPORT_PLACES],
-    errors_at: [usize; REPORT_PLACES],
+    heads: [ReportHead; REPORT_ENTRIES],
+    errors_at: [usize; REPORT_ENTRIES],
     count: u32,
 ) {
     let mut i: usize = 0;
-    while i < REPORT_PLACES {
+    while i < REPORT_ENTRIES {
         if count as usize <= i {
             return;
         }
-        say_report(payload, heads[i], errors_at[i]);
+        print_report(payload, heads[i], errors_at[i]);
         i += 1;
     }
 }
 
-pub fn say_report_read(payload: &[u8]) {
+pub fn print_report_read(payload: &[u8]) {
     let got = report::read_reports(payload);
     let answer = got.answer;
     let heads = got.heads;
     let errors_at = got.errors_at;
-    say(b"report-read");
+    print_text(b"report-read");
     match answer {
-        ReportAnswer::Refused(e) => say_fault(e),
-        ReportAnswer::Count(count) => {
-            say_field(b" reports=", count as u64);
-            say_reports(payload, heads, errors_at, count);
+        ReportsAnswer::Refused(e) => print_fault(e),
+        ReportsAnswer::Count(count) => {
+            print_field(b" reports=", count as u64);
+            print_reports(payload, heads, errors_at, count);
         }
     }
 }

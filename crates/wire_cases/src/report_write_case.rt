@@ -1,34 +1,34 @@
 // Error reports that are written. The payload has: output length, report count, reports, list length, errors.
-use crate::form::list_at;
-use crate::sixteen::sixteen_at;
+use crate::form::error_list_at;
+use crate::id::id_at;
 use base::DEVICE_ID_SIZE;
 use base::ERROR_LIST_SIZE;
 use base::ERROR_SIZE;
+use base::REPORT_ENTRIES;
 use base::REPORT_HEAD_SIZE;
-use base::REPORT_PLACES;
-use print::say;
-use print::say_field;
-use print::say_hex;
-use print::say_refused;
+use print::print_field;
+use print::print_hex;
+use print::print_refused;
+use print::print_text;
 use report::ReportHead;
-use report_write::Written;
+use report::Written;
 
 fn head_of(r: &[u8]) -> ReportHead {
-    let stateid = sixteen_at(r, 16);
+    let stateid = id_at(r, 16);
     ReportHead {
-        offset: numbers::le8(r, 0),
-        length: numbers::le8(r, 8),
+        offset: bytes::le8(r, 0),
+        length: bytes::le8(r, 8),
         stateid: stateid,
-        errors: numbers::le4(r, 32),
+        errors: bytes::le4(r, 32),
     }
 }
 
 // The payload's reports; blank in the places past their count.
-fn heads_of(payload: &[u8], count: u32) -> [ReportHead; REPORT_PLACES] {
+fn heads_of(payload: &[u8], count: u32) -> [ReportHead; REPORT_ENTRIES] {
     let blank = head_of(b"");
-    let mut heads = [blank; REPORT_PLACES];
+    let mut heads = [blank; REPORT_ENTRIES];
     let mut i: usize = 0;
-    while i < REPORT_PLACES {
+    while i < REPORT_ENTRIES {
         let at = 8 + REPORT_HEAD_SIZE * i;
         let end = at + REPORT_HEAD_SIZE;
         if count as usize <= i {
@@ -43,59 +43,59 @@ fn heads_of(payload: &[u8], count: u32) -> [ReportHead; REPORT_PLACES] {
     heads
 }
 
-// The errors in the form in which the core takes them: wire records.
-fn put_records(records: &mut [u8], errors: &[u8]) {
+// The errors in the form in which the core takes them: wire entries.
+fn put_entries(records: &mut [u8], errors: &[u8]) {
     let mut at: usize = 0;
     while ERROR_SIZE <= errors.len() - at {
         let middle = at + DEVICE_ID_SIZE;
-        let status = numbers::le4(errors, middle);
-        let operation = numbers::le4(errors, middle + 4);
-        report_write::put_error(records, at, &errors[at..middle], status, operation);
+        let status = bytes::le4(errors, middle);
+        let operation = bytes::le4(errors, middle + 4);
+        report::put_error(records, at, &errors[at..middle], status, operation);
         at += ERROR_SIZE;
     }
 }
 
-fn say_written(w: Written) {
-    say(b"report-write");
+fn print_written(w: Written) {
+    print_text(b"report-write");
     match w {
-        Written::Length(n) => say_field(b" length=", n as u64),
-        Written::Refused(e) => say_refused(e),
+        Written::Length(n) => print_field(b" length=", n as u64),
+        Written::Refused(e) => print_refused(e),
     }
 }
 
 // The answer and the whole output.
-fn say_output(
+fn print_output(
     count: u32,
-    heads: [ReportHead; REPORT_PLACES],
+    heads: [ReportHead; REPORT_ENTRIES],
     errors: usize,
     records: &[u8],
     out: &mut [u8],
 ) {
-    let w = report_write::write_reports(count, heads, errors, records, out);
-    say_written(w);
-    say(b" output=");
-    say_hex(out);
+    let w = report::write_reports(count, heads, errors, records, out);
+    print_written(w);
+    print_text(b" output=");
+    print_hex(out);
 }
 
-fn say_writing(payload: &[u8], count: u32, errors: usize, records: &[u8]) {
-    let size = numbers::le4(payload, 0) as usize;
+fn print_writing(payload: &[u8], count: u32, errors: usize, records: &[u8]) {
+    let size = bytes::le4(payload, 0) as usize;
     let mut out = [165u8; 4096];
     if out.len() < size {
         return;
     }
     let heads = heads_of(payload, count);
-    say_output(count, heads, errors, records, &mut out[..size]);
+    print_output(count, heads, errors, records, &mut out[..size]);
 }
 
-pub fn say_report_write(payload: &[u8]) {
-    let count = numbers::le4(payload, 4);
-    let at = list_at(count);
+pub fn print_report_write(payload: &[u8]) {
+    let count = bytes::le4(payload, 4);
+    let at = error_list_at(count);
     let from = at + 4;
     if payload.len() < from {
         return;
     }
     let mut records = [0u8; ERROR_LIST_SIZE];
-    put_records(&mut records, &payload[from..]);
-    let errors = numbers::le4(payload, at) as usize;
-    say_writing(payload, count, errors, &records);
+    put_entries(&mut records, &payload[from..]);
+    let errors = bytes::le4(payload, at) as usize;
+    print_writing(payload, count, errors, &records);
 }

@@ -3,33 +3,33 @@ use Prim.Native.Nat.{ℕ, _-_, _<_}
 use mathlib.Core.Path.{_≡_, refl}
 use mathlib.Core.List.{List}
 use native.Mathlib.Omega.{arith}
-use Rattle.xdr.specs.Res.{Res, ok, no, then, manyAt, endOf}
+use Rattle.xdr.specs.Parsed.{Parsed, ok, fault, then, manyAt, endOf}
 use Rattle.xdr.proofs.ManyLaws.{first-then, none-then, refused-then}
 
 -- what follows goes by the place alone
-pub end-then : {A B : Type 0} (x : Res A) (f : ℕ → Res B) (p : ℕ) → endOf x ≡ ok tt p → then x (λ a q. f q) ≡ f p
+pub end-then : {A B : Type 0} (x : Parsed A) (f : ℕ → Parsed B) (p : ℕ) → endOf x ≡ ok tt p → then x (λ a q. f q) ≡ f p
 unfolding endOf then
 end-then (ok a q) f p e = let h : q ≡ p = cc in rw h
-end-then (no n) f p e = let z : _≡_ {A = ℕ} 0 1 = cc in absurd (omega arith)
+end-then (fault n) f p e = let z : _≡_ {A = ℕ} 0 1 = cc in absurd (omega arith)
 
-pub end-refused : {A B : Type 0} (x : Res A) (f : A → ℕ → Res B) (n : ℕ) → endOf x ≡ no n → then x f ≡ no n
+pub end-refused : {A B : Type 0} (x : Parsed A) (f : A → ℕ → Parsed B) (n : ℕ) → endOf x ≡ fault n → then x f ≡ fault n
 unfolding endOf then
 end-refused (ok a q) f n e = let z : _≡_ {A = ℕ} 0 1 = cc in absurd (omega arith)
-end-refused (no m) f n e = let h : m ≡ n = cc in rw h
+end-refused (fault m) f n e = let h : m ≡ n = cc in rw h
 
-pub end-goes-on : {A B : Type 0} (x : Res A) (f : ℕ → Res B) → then (endOf x) (λ u q. f q) ≡ then x (λ a q. f q)
+pub end-goes-on : {A B : Type 0} (x : Parsed A) (f : ℕ → Parsed B) → then (endOf x) (λ u q. f q) ≡ then x (λ a q. f q)
 unfolding endOf then
 end-goes-on (ok a q) f = refl
-end-goes-on (no n) f = refl
+end-goes-on (fault n) f = refl
 
 -- ---- several items, the first of them apart
 
-module _ {A : Type 0} (item : List ℕ → ℕ → Res A) (n : ℕ) (s : List ℕ) (at : ℕ) where
+module _ {A : Type 0} (item : List ℕ → ℕ → Parsed A) (n : ℕ) (s : List ℕ) (at : ℕ) where
   pub none-end : n ≡ 0 → endOf (manyAt item n s at) ≡ ok tt at
   unfolding endOf
   none-end h = none-then item n s at _ h
 
-  pub first-refuses : (k : ℕ) → 0 < n → item s at ≡ no k → endOf (manyAt item n s at) ≡ no k
+  pub first-refuses : (k : ℕ) → 0 < n → item s at ≡ fault k → endOf (manyAt item n s at) ≡ fault k
   unfolding endOf
   first-refuses k h e = refused-then item n s at _ k h e
 

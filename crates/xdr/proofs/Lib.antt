@@ -3,5 +3,5 @@ pub mod ItemLaws
 pub mod Accepted
 pub mod ManyLaws
 pub mod EndLaws
-pub mod PlaceLaws
-pub mod StandingItems
+pub mod ListedLaws
+pub mod ItemsAtLaws

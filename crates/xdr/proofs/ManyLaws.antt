@@ -7,22 +7,22 @@ use native.Mathlib.Omega.{arith}
 use lib.ListN.{length, getD}
 use Rattle.base.specs.Lists.{Each}
 use Rattle.base.proofs.ListLaws.{each-at}
-use Rattle.xdr.specs.Res.{Res, ok, no, then, manyAt}
-use Rattle.xdr.proofs.Accepted.{ran, same-place, same-value}
+use Rattle.xdr.specs.Parsed.{Parsed, ok, fault, then, manyAt}
+use Rattle.xdr.proofs.Accepted.{then-inv, same-offset, same-value}
 
 -- ---- the first item apart, whatever the items are read for
 
-then-then : {A B C : Type 0} (x : Res A) (f : A → ℕ → Res B) (g : B → ℕ → Res C) → then (then x f) g ≡ then x (λ a p. then (f a p) g)
+then-then : {A B C : Type 0} (x : Parsed A) (f : A → ℕ → Parsed B) (g : B → ℕ → Parsed C) → then (then x f) g ≡ then x (λ a p. then (f a p) g)
 unfolding then
 then-then (ok a p) f g = refl
-then-then (no n) f g = refl
+then-then (fault n) f g = refl
 
-module _ {A C : Type 0} (item : List ℕ → ℕ → Res A) (n : ℕ) (s : List ℕ) (at : ℕ) (f : List A → ℕ → Res C) where
+module _ {A C : Type 0} (item : List ℕ → ℕ → Parsed A) (n : ℕ) (s : List ℕ) (at : ℕ) (f : List A → ℕ → Parsed C) where
   pub none-then : n ≡ 0 → then (manyAt item n s at) f ≡ f [] at
   unfolding manyAt then
   none-then h = rw h
 
-  pub refused-then : (k : ℕ) → 0 < n → item s at ≡ no k → then (manyAt item n s at) f ≡ no k
+  pub refused-then : (k : ℕ) → 0 < n → item s at ≡ fault k → then (manyAt item n s at) f ≡ fault k
   unfolding manyAt then
   refused-then k h e = let g : n ≡ suc (n - 1) = omega arith in rw (g, e)
 
@@ -33,13 +33,13 @@ module _ {A C : Type 0} (item : List ℕ → ℕ → Res A) (n : ℕ) (s : List 
     go zero h = absurd (omega arith)
     go (suc m) h = let g : suc m - 1 ≡ m = omega arith in rw (e, g) (then-then (manyAt item m s p) (λ l q. ok (a ∷ l) q) f)
 
-pub many-none : {A : Type 0} (item : List ℕ → ℕ → Res A) (n : ℕ) (s : List ℕ) (at : ℕ) → n ≡ 0 → manyAt item n s at ≡ ok [] at
+pub many-none : {A : Type 0} (item : List ℕ → ℕ → Parsed A) (n : ℕ) (s : List ℕ) (at : ℕ) → n ≡ 0 → manyAt item n s at ≡ ok [] at
 unfolding manyAt
 many-none item n s at h = rw h
 
 -- ---- items that were read
 
-module _ {A : Type 0} (item : List ℕ → ℕ → Res A) where
+module _ {A : Type 0} (item : List ℕ → ℕ → Parsed A) where
   -- the first item, and those behind it
   pub record First (n : ℕ) (s : List ℕ) (at : ℕ) (l : List A) (p : ℕ) : Type 0 where
     pub head : A
@@ -52,14 +52,14 @@ module _ {A : Type 0} (item : List ℕ → ℕ → Res A) where
   pub first-read : (n : ℕ) (s : List ℕ) (at : ℕ) (l : List A) (p : ℕ) → manyAt item (suc n) s at ≡ ok l p → First n s at l p
   unfolding manyAt
   first-read n s at l p e =
-      let r = ran _ _ l p e in
-      let t = ran _ _ l p (r .rest) in
+      let r = then-inv _ _ l p e in
+      let t = then-inv _ _ l p (r .rest) in
       record {
         head = r .item;
         next = r .next;
         others = t .item;
         first = r .first;
-        rest = t .first ∙ ap (ok (t .item)) (same-place (t .rest));
+        rest = t .first ∙ ap (ok (t .item)) (same-offset (t .rest));
         all = same-value (t .rest);
       }
 
@@ -74,7 +74,7 @@ module _ {A : Type 0} (item : List ℕ → ℕ → Res A) where
   pub many-least : (k : ℕ) (s : List ℕ) → ((at : ℕ) (a : A) (p : ℕ) → item s at ≡ ok a p → at + k ≤ p)
       → (n at : ℕ) (l : List A) (p : ℕ) → manyAt item n s at ≡ ok l p → at + n * k ≤ p
   unfolding manyAt
-  many-least k s h zero at l p e = let f : at ≡ p = same-place e in omega (arith, f)
+  many-least k s h zero at l p e = let f : at ≡ p = same-offset e in omega (arith, f)
   many-least k s h (suc n) at l p e =
       let r = first-read n s at l p e in
       let a = h at (r .head) (r .next) (r .first) in
@@ -84,7 +84,7 @@ module _ {A : Type 0} (item : List ℕ → ℕ → Res A) where
   pub many-exact : (k : ℕ) (s : List ℕ) → ((at : ℕ) (a : A) (p : ℕ) → item s at ≡ ok a p → p ≡ at + k)
       → (n at : ℕ) (l : List A) (p : ℕ) → manyAt item n s at ≡ ok l p → p ≡ at + n * k
   unfolding manyAt
-  many-exact k s h zero at l p e = let f : at ≡ p = same-place e in omega (arith, f)
+  many-exact k s h zero at l p e = let f : at ≡ p = same-offset e in omega (arith, f)
   many-exact k s h (suc n) at l p e =
       let r = first-read n s at l p e in
       let a = h at (r .head) (r .next) (r .first) in

@@ -3,7 +3,7 @@ use Prim.Native.Nat.{ℕ}
 use mathlib.Core.Bool.{Bool}
 use mathlib.Core.List.{List}
 use Rattle.base.specs.Refusals.{faultNumber}
-use Rattle.xdr.specs.Res.{Res, ok, no}
+use Rattle.xdr.specs.Parsed.{Parsed, ok, fault}
 use Rattle.xdr.specs.Lists.{Listed}
 use Rattle.xdr.specs.declared.Part.{Part}
 use Rattle.xdr.specs.declared.end.ReadEnd.{ReadEnd}
@@ -17,27 +17,27 @@ use Rattle.xdr.specs.declared.item.ReadBool.the-variants as bool
 use Rattle.xdr.specs.declared.item.ReadPart.{ReadPart}
 use Rattle.xdr.specs.declared.item.ReadPart.the-variants as part
 
-abbrev pub resOfU32 : ReadU32 → Res ℕ
-resOfU32 (u32.Value n c) = ok n (c .at)
-resOfU32 (u32.Refused e) = no (faultNumber e)
+abbrev pub parsedOfU32 : ReadU32 → Parsed ℕ
+parsedOfU32 (u32.Value n c) = ok n (c .at)
+parsedOfU32 (u32.Refused e) = fault (faultNumber e)
 
-abbrev pub resOfU64 : ReadU64 → Res ℕ
-resOfU64 (u64.Value n c) = ok n (c .at)
-resOfU64 (u64.Refused e) = no (faultNumber e)
+abbrev pub parsedOfU64 : ReadU64 → Parsed ℕ
+parsedOfU64 (u64.Value n c) = ok n (c .at)
+parsedOfU64 (u64.Refused e) = fault (faultNumber e)
 
-abbrev pub resOfBool : ReadBool → Res Bool
-resOfBool (bool.Value b c) = ok b (c .at)
-resOfBool (bool.Refused e) = no (faultNumber e)
+abbrev pub parsedOfBool : ReadBool → Parsed Bool
+parsedOfBool (bool.Value b c) = ok b (c .at)
+parsedOfBool (bool.Refused e) = fault (faultNumber e)
 
-abbrev pub resOfPart : ReadPart → Res Part
-resOfPart (part.Value p c) = ok p (c .at)
-resOfPart (part.Refused e) = no (faultNumber e)
+abbrev pub parsedOfPart : ReadPart → Parsed Part
+parsedOfPart (part.Value p c) = ok p (c .at)
+parsedOfPart (part.Refused e) = fault (faultNumber e)
 
-abbrev pub resOfEnd : ReadEnd → Res (Unit {0})
-resOfEnd (end.Value c) = ok tt (c .at)
-resOfEnd (end.Refused e) = no (faultNumber e)
+abbrev pub parsedOfEnd : ReadEnd → Parsed (Unit {0})
+parsedOfEnd (end.Value c) = ok tt (c .at)
+parsedOfEnd (end.Refused e) = fault (faultNumber e)
 
 -- of a list, the answer is the count; the places stand beside it
-abbrev pub resOfList : {A : Type 0} → List A → ReadU32 → Res (Listed A)
-resOfList l (u32.Value n c) = ok (record { count = n; places = l }) (c .at)
-resOfList l (u32.Refused e) = no (faultNumber e)
+abbrev pub parsedOfList : {A : Type 0} → List A → ReadU32 → Parsed (Listed A)
+parsedOfList l (u32.Value n c) = ok (record { count = n; entries = l }) (c .at)
+parsedOfList l (u32.Refused e) = fault (faultNumber e)

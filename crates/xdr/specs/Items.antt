@@ -1,38 +1,38 @@
--- The items of XDR, each at a place of a list of bytes. "At one item the order is: enough bytes (its padding counted), then its value, then its
--- padding. A length or count in front is an item of its own."
+-- The items of XDR, each at a place of a list of bytes. "At one item the order is: enough bytes (its padding
+-- counted), then its value, then its padding. A length or count in front is an item of its own."
 use Prim.Native.Nat.{ℕ, _+_, _-_, _%_}
 use mathlib.Core.List.{List}
 use mathlib.Core.Bool.{Bool, _&&_}
 use lib.ListN.{length}
 use lib.Dec.{leb, eqb}
 use Rattle.base.specs.Answer.{pick}
-use Rattle.numbers.specs.Numbers.{allZero, beValue, bytesFrom}
-use Rattle.xdr.specs.Res.{Res, ok, no, then}
+use Rattle.bytes.specs.Numbers.{allZero, beValue, bytesFrom}
+use Rattle.xdr.specs.Parsed.{Parsed, ok, fault, then}
 use Rattle.xdr.specs.declared.Part.{Part}
 
 -- a number of k bytes: "All wire numbers are big-endian: 4 or 8 bytes."
-unfoldable pub numAt : ℕ → List ℕ → ℕ → Res ℕ
-numAt k s at = pick (leb (at + k) (length s)) (ok (beValue (bytesFrom k s at)) (at + k)) (no 1)
+unfoldable pub numAt : ℕ → List ℕ → ℕ → Parsed ℕ
+numAt k s at = pick (leb (at + k) (length s)) (ok (beValue (bytesFrom k s at)) (at + k)) (fault 1)
 
 -- "A boolean is 4 bytes, 0 or 1."
-unfoldable pub boolAt : List ℕ → ℕ → Res Bool
-boolAt s at = then (numAt 4 s at) λ n p. pick (leb n 1) (ok (eqb n 1) p) (no 7)
+unfoldable pub boolAt : List ℕ → ℕ → Parsed Bool
+boolAt s at = then (numAt 4 s at) λ n p. pick (leb n 1) (ok (eqb n 1) p) (fault 7)
 
 -- a count or a length from lo to hi; 8 outside, whatever follows: "an item of its own"
-unfoldable pub countAt : ℕ → ℕ → List ℕ → ℕ → Res ℕ
-countAt lo hi s at = then (numAt 4 s at) λ n p. pick (leb lo n && leb n hi) (ok n p) (no 8)
+unfoldable pub countAt : ℕ → ℕ → List ℕ → ℕ → Parsed ℕ
+countAt least most s at = then (numAt 4 s at) λ n p. pick (leb least n && leb n most) (ok n p) (fault 8)
 
 -- "0 to 3 zero bytes up to a multiple of 4"
 abbrev pub padding : ℕ → ℕ
 padding n = (4 - n % 4) % 4
 
 -- n bytes and their padding; the value is where they stand
-unfoldable pub bytesAt : ℕ → List ℕ → ℕ → Res Part
+unfoldable pub bytesAt : ℕ → List ℕ → ℕ → Parsed Part
 bytesAt n s at =
     pick (leb (at + n + padding n) (length s))
-    (pick (allZero (bytesFrom (padding n) s (at + n))) (ok (record { start = at; len = n }) (at + n + padding n)) (no 6))
-    (no 1)
+    (pick (allZero (bytesFrom (padding n) s (at + n))) (ok (record { start = at; len = n }) (at + n + padding n)) (fault 6))
+    (fault 1)
 
 -- "Variable opaque and string data have a 4-byte length, the bytes, then 0 to 3 zero bytes": of lo to hi bytes
-unfoldable pub opaqueAt : ℕ → ℕ → List ℕ → ℕ → Res Part
-opaqueAt lo hi s at = then (countAt lo hi s at) λ n p. bytesAt n s p
+unfoldable pub opaqueAt : ℕ → ℕ → List ℕ → ℕ → Parsed Part
+opaqueAt least most s at = then (countAt least most s at) λ n p. bytesAt n s p

@@ -2,17 +2,17 @@
 use Prim.Native.Nat.{ℕ}
 use mathlib.Core.List.{List}
 use Rattle.base.specs.Lists.{padded}
-use Rattle.xdr.specs.Res.{Res, ok, then, manyAt}
+use Rattle.xdr.specs.Parsed.{Parsed, ok, then, manyAt}
 use Rattle.xdr.specs.Items.{countAt}
 
 -- how many items there are, and the places: the items first, the others blank
 pub record Listed (A : Type 0) : Type 0 where
   pub count : ℕ
-  pub places : List A
+  pub entries : List A
 
 -- a count from lo to hi, and as many items, in hi places
-unfoldable pub listAt : {A : Type 0} → ℕ → ℕ → (List ℕ → ℕ → Res A) → A → List ℕ → ℕ → Res (Listed A)
-listAt lo hi item blank s at =
-    then (countAt lo hi s at) λ n p.
+unfoldable pub listAt : {A : Type 0} → ℕ → ℕ → (List ℕ → ℕ → Parsed A) → A → List ℕ → ℕ → Parsed (Listed A)
+listAt least most item blank s at =
+    then (countAt least most s at) λ n p.
     then (manyAt item n s p) λ l q.
-    ok (record { count = n; places = padded hi blank l }) q
+    ok (record { count = n; entries = padded most blank l }) q

@@ -3,8 +3,8 @@ use crate::Cursor;
 use base::Fault;
 ghost use mathlib.Core.Path.{_≡_};
 ghost use Rattle.base.specs.Refusals.{faultNumber};
-ghost use Rattle.xdr.specs.Res.{faultIn};
-ghost use Rattle.xdr.specs.Answers.{resOfEnd};
+ghost use Rattle.xdr.specs.Parsed.{faultIn};
+ghost use Rattle.xdr.specs.Answers.{parsedOfEnd};
 
 // The place behind what was read.
 pub enum ReadEnd {
@@ -12,8 +12,8 @@ pub enum ReadEnd {
     Refused(Fault),
 }
 
-pub fn why_end(r: ReadEnd) -> Fault
-    ensures { λ e. ⌜ faultNumber e ≡ faultIn (resOfEnd r) ⌝ }
+pub fn fault_of_end(r: ReadEnd) -> Fault
+    ensures { λ e. ⌜ faultNumber e ≡ faultIn (parsedOfEnd r) ⌝ }
 {
     match r {
         ReadEnd::Refused(e) => e,

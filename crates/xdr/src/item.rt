@@ -2,14 +2,14 @@
 use crate::Cursor;
 use crate::Part;
 use crate::number::ReadU32;
+use crate::number::fault_of_u32;
 use crate::number::read_u32;
-use crate::number::why_u32;
 use base::Fault;
 ghost use mathlib.Core.Path.{_≡_};
-ghost use Rattle.xdr.specs.Res.{faultIn};
+ghost use Rattle.xdr.specs.Parsed.{faultIn};
 ghost use Rattle.base.specs.Refusals.{faultNumber};
 ghost use Rattle.xdr.specs.Items.{boolAt, bytesAt, countAt, opaqueAt};
-ghost use Rattle.xdr.specs.Answers.{resOfBool, resOfPart, resOfU32};
+ghost use Rattle.xdr.specs.Answers.{parsedOfBool, parsedOfPart, parsedOfU32};
 
 pub enum ReadBool {
     Value(bool, Cursor),
@@ -22,11 +22,11 @@ pub enum ReadPart {
 }
 
 pub fn read_bool(s: &[u8], c: Cursor) -> ReadBool
-    ensures { λ r. ⌜ resOfBool r ≡ boolAt (now (s .entry)) (c .at) ⌝ }
+    ensures { λ r. ⌜ parsedOfBool r ≡ boolAt (now (s .entry)) (c .at) ⌝ }
 {
     let r = read_u32(s, c);
     let ReadU32::Value(n, d) = r else {
-        return ReadBool::Refused(why_u32(r));
+        return ReadBool::Refused(fault_of_u32(r));
     };
     if 1 < n {
         return ReadBool::Refused(Fault::BooleanInvalid);
@@ -35,17 +35,17 @@ pub fn read_bool(s: &[u8], c: Cursor) -> ReadBool
 }
 
 // A count or a length, from lo to hi.
-pub fn read_count(s: &[u8], c: Cursor, lo: u32, hi: u32) -> ReadU32
-    ensures { λ r. ⌜ resOfU32 r ≡ countAt lo hi (now (s .entry)) (c .at) ⌝ }
+pub fn read_count(s: &[u8], c: Cursor, least: u32, most: u32) -> ReadU32
+    ensures { λ r. ⌜ parsedOfU32 r ≡ countAt least most (now (s .entry)) (c .at) ⌝ }
 {
     let r = read_u32(s, c);
     let ReadU32::Value(n, _) = r else {
         return r;
     };
-    if n < lo {
+    if n < least {
         return ReadU32::Refused(Fault::OutsideLimit);
     }
-    if hi < n {
+    if most < n {
         return ReadU32::Refused(Fault::OutsideLimit);
     }
     r
@@ -53,7 +53,7 @@ pub fn read_count(s: &[u8], c: Cursor, lo: u32, hi: u32) -> ReadU32
 
 // n bytes and their padding; bytes of a fixed number that is a multiple of 4 have none.
 pub fn read_bytes(s: &[u8], c: Cursor, n: usize) -> ReadPart
-    ensures { λ r. ⌜ resOfPart r ≡ bytesAt n (now (s .entry)) (c .at) ⌝ }
+    ensures { λ r. ⌜ parsedOfPart r ≡ bytesAt n (now (s .entry)) (c .at) ⌝ }
 {
     let at = c.at;
     let pad = (4 - n % 4) % 4;
@@ -68,25 +68,25 @@ pub fn read_bytes(s: &[u8], c: Cursor, n: usize) -> ReadPart
         return ReadPart::Refused(Fault::BytesRunOut);
     }
     let next = end + pad;
-    if !numbers::all_zero(&s[end..next], 0) {
+    if !bytes::all_zero(&s[end..next], 0) {
         return ReadPart::Refused(Fault::PaddingNotZero);
     }
     ReadPart::Value(Part { start: at, len: n }, Cursor { at: next })
 }
 
 // Variable opaque or string data of lo to hi bytes.
-pub fn read_opaque(s: &[u8], c: Cursor, lo: u32, hi: u32) -> ReadPart
-    ensures { λ r. ⌜ resOfPart r ≡ opaqueAt lo hi (now (s .entry)) (c .at) ⌝ }
+pub fn read_opaque(s: &[u8], c: Cursor, least: u32, most: u32) -> ReadPart
+    ensures { λ r. ⌜ parsedOfPart r ≡ opaqueAt least most (now (s .entry)) (c .at) ⌝ }
 {
-    let r = read_count(s, c, lo, hi);
+    let r = read_count(s, c, least, most);
     let ReadU32::Value(n, d) = r else {
-        return ReadPart::Refused(why_u32(r));
+        return ReadPart::Refused(fault_of_u32(r));
     };
     read_bytes(s, d, n as usize)
 }
 
-pub fn why_bool(r: ReadBool) -> Fault
-    ensures { λ e. ⌜ faultNumber e ≡ faultIn (resOfBool r) ⌝ }
+pub fn fault_of_bool(r: ReadBool) -> Fault
+    ensures { λ e. ⌜ faultNumber e ≡ faultIn (parsedOfBool r) ⌝ }
 {
     match r {
         ReadBool::Refused(e) => e,
@@ -94,8 +94,8 @@ pub fn why_bool(r: ReadBool) -> Fault
     }
 }
 
-pub fn why_part(r: ReadPart) -> Fault
-    ensures { λ e. ⌜ faultNumber e ≡ faultIn (resOfPart r) ⌝ }
+pub fn fault_of_part(r: ReadPart) -> Fault
+    ensures { λ e. ⌜ faultNumber e ≡ faultIn (parsedOfPart r) ⌝ }
 {
     match r {
         ReadPart::Refused(e) => e,

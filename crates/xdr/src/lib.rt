@@ -4,21 +4,21 @@ mod item;
 mod number;
 
 pub use end::ReadEnd;
-pub use end::why_end;
+pub use end::fault_of_end;
 pub use item::ReadBool;
 pub use item::ReadPart;
+pub use item::fault_of_bool;
+pub use item::fault_of_part;
 pub use item::read_bool;
 pub use item::read_bytes;
 pub use item::read_count;
 pub use item::read_opaque;
-pub use item::why_bool;
-pub use item::why_part;
 pub use number::ReadU32;
 pub use number::ReadU64;
+pub use number::fault_of_u32;
+pub use number::fault_of_u64;
 pub use number::read_u32;
 pub use number::read_u64;
-pub use number::why_u32;
-pub use number::why_u64;
 
 // The place of the next item.
 pub struct Cursor {

@@ -2,10 +2,10 @@
 use crate::Cursor;
 use base::Fault;
 ghost use mathlib.Core.Path.{_≡_};
-ghost use Rattle.xdr.specs.Res.{faultIn};
+ghost use Rattle.xdr.specs.Parsed.{faultIn};
 ghost use Rattle.base.specs.Refusals.{faultNumber};
 ghost use Rattle.xdr.specs.Items.{numAt};
-ghost use Rattle.xdr.specs.Answers.{resOfU32, resOfU64};
+ghost use Rattle.xdr.specs.Answers.{parsedOfU32, parsedOfU64};
 
 pub enum ReadU32 {
     Value(u32, Cursor),
@@ -18,7 +18,7 @@ pub enum ReadU64 {
 }
 
 pub fn read_u32(s: &[u8], c: Cursor) -> ReadU32
-    ensures { λ r. ⌜ resOfU32 r ≡ numAt 4 (now (s .entry)) (c .at) ⌝ }
+    ensures { λ r. ⌜ parsedOfU32 r ≡ numAt 4 (now (s .entry)) (c .at) ⌝ }
 {
     let at = c.at;
     if s.len() < at {
@@ -27,11 +27,11 @@ pub fn read_u32(s: &[u8], c: Cursor) -> ReadU32
     if s.len() - at < 4 {
         return ReadU32::Refused(Fault::BytesRunOut);
     }
-    ReadU32::Value(numbers::be4(s, at), Cursor { at: at + 4 })
+    ReadU32::Value(bytes::be4(s, at), Cursor { at: at + 4 })
 }
 
 pub fn read_u64(s: &[u8], c: Cursor) -> ReadU64
-    ensures { λ r. ⌜ resOfU64 r ≡ numAt 8 (now (s .entry)) (c .at) ⌝ }
+    ensures { λ r. ⌜ parsedOfU64 r ≡ numAt 8 (now (s .entry)) (c .at) ⌝ }
 {
     let at = c.at;
     if s.len() < at {
@@ -40,11 +40,11 @@ pub fn read_u64(s: &[u8], c: Cursor) -> ReadU64
     if s.len() - at < 8 {
         return ReadU64::Refused(Fault::BytesRunOut);
     }
-    ReadU64::Value(numbers::be8(s, at), Cursor { at: at + 8 })
+    ReadU64::Value(bytes::be8(s, at), Cursor { at: at + 8 })
 }
 
-pub fn why_u32(r: ReadU32) -> Fault
-    ensures { λ e. ⌜ faultNumber e ≡ faultIn (resOfU32 r) ⌝ }
+pub fn fault_of_u32(r: ReadU32) -> Fault
+    ensures { λ e. ⌜ faultNumber e ≡ faultIn (parsedOfU32 r) ⌝ }
 {
     match r {
         ReadU32::Refused(e) => e,
@@ -52,8 +52,8 @@ pub fn why_u32(r: ReadU32) -> Fault
     }
 }
 
-pub fn why_u64(r: ReadU64) -> Fault
-    ensures { λ e. ⌜ faultNumber e ≡ faultIn (resOfU64 r) ⌝ }
+pub fn fault_of_u64(r: ReadU64) -> Fault
+    ensures { λ e. ⌜ faultNumber e ≡ faultIn (parsedOfU64 r) ⌝ }
 {
     match r {
         ReadU64::Refused(e) => e,

@@ -1,7 +1,7 @@
 //! Prints a case file: `generate-cases stored` or
 //! `generate-cases random SEED COUNT`.
 
-use independent::generate::{mixed::random_file, stored::stored_file};
+use case_files::generate::{mixed::random_file, stored::stored_file};
 use std::io::{self, Write};
 use std::process::ExitCode;
 

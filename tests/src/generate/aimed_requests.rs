@@ -1,14 +1,14 @@
 //! Random I/O requests, aimed at the ends of segments and of stripe units.
 
 use super::layout4s::EDGES;
-use super::random::Random;
-use crate::io_request::{Direction, IoRequest};
-use crate::iomode::Iomode;
-use crate::layout::read_layout_body;
-use crate::segments::Segment;
-use crate::state::State;
-use crate::store::{body_in, slots};
-use crate::table_cases::TableCase;
+use independent::io_request::{Direction, IoRequest};
+use independent::iomode::Iomode;
+use independent::layout::read_layout_body;
+use independent::samples::random::Random;
+use independent::segments::Segment;
+use independent::state::State;
+use independent::store::{body_in, slots};
+use independent::table_cases::TableCase;
 
 /// Several requests, by the table as it stands.
 pub fn aimed_requests(random: &mut Random, state: &State, most: usize) -> Vec<TableCase> {

@@ -1,13 +1,13 @@
 //! Last records that stop the run of a random file.
 
 use super::mixed::add_case;
-use super::random::Random;
-use crate::cases::{kind, CaseFileWriter};
-use crate::event::{Event, RangeNumbers};
-use crate::io_request::IoRequest;
-use crate::iomode::{Iomode, IOMODE_ANY};
-use crate::segments::Segment;
-use crate::table_cases::{encode_table_case, kind as table_kind, TableCase};
+use independent::cases::{kind, CaseFileWriter};
+use independent::event::{Event, RangeNumbers};
+use independent::io_request::IoRequest;
+use independent::iomode::{Iomode, IOMODE_ANY};
+use independent::samples::random::Random;
+use independent::segments::Segment;
+use independent::table_cases::{encode_table_case, kind as table_kind, TableCase};
 
 /// A record whose payload, or whose own first bytes, the file's end cuts.
 pub fn add_cut_record(cases: &mut CaseFileWriter, random: &mut Random) {
@@ -49,7 +49,7 @@ pub fn add_record_without_form(cases: &mut CaseFileWriter, random: &mut Random) 
 fn add_table_number_beyond_its_limit(cases: &mut CaseFileWriter, random: &mut Random) {
     match random.below(3) {
         0 => cases.record(table_kind::SET_BYTE, &[0, 128, 0, 0, 1]),
-        1 => cases.record(table_kind::LEND, &[1, 128, 0, 0]),
+        1 => cases.record(table_kind::SET_BORROWED, &[1, 128, 0, 0]),
         _ => {
             let mut payload = [0; 32];
             payload[0] = 1;
@@ -76,7 +76,7 @@ fn add_table_payload_of_another_length(cases: &mut CaseFileWriter, random: &mut 
         TableCase::SetByte { place: 0, value: 0 },
         segment,
         TableCase::Reset,
-        TableCase::Lend(0),
+        TableCase::SetBorrowed(0),
     ];
     let (kind, mut payload) = encode_table_case(&all[random.below(all.len())]);
     if payload.is_empty() || random.once_in(2) {

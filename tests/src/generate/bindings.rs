@@ -1,10 +1,12 @@
 //! Cases of binding a server to its device.
 
-use super::bodies::{fixed_pattern, DevicePlan, LayoutPlan, ServerPlan, VersionPlan, LOOSE_VERSIONS, TIGHT_VERSIONS};
-use super::random::Random;
-use super::wire::{extended, overwritten};
-use crate::binding::BindRequest;
-use crate::cases::CaseFileWriter;
+use independent::binding::BindRequest;
+use independent::cases::CaseFileWriter;
+use independent::samples::bodies::{
+    fixed_pattern, DevicePlan, LayoutPlan, ServerPlan, VersionPlan, LOOSE_VERSIONS, TIGHT_VERSIONS,
+};
+use independent::samples::random::Random;
+use independent::samples::wire::{extended, overwritten};
 
 /// A binding whose parts can be changed one by one.
 #[derive(Clone, Debug)]

@@ -1,11 +1,11 @@
 //! Cases from real traffic: every captured body, and captured layouts bound to
 //! captured devices.
 
-use super::bodies::{DevicePlan, VersionPlan, LOOSE_VERSIONS};
-use crate::binding::BindRequest;
-use crate::cases::{kind, CaseFileWriter};
-use crate::layout::{read_layout_body, read_server_at, LayoutSummary};
-use crate::layout4::BODY_IN_LAYOUT4;
+use independent::binding::BindRequest;
+use independent::cases::{kind, CaseFileWriter};
+use independent::layout::{read_layout_body, read_server_at, LayoutSummary};
+use independent::layout4::BODY_IN_LAYOUT4;
+use independent::samples::bodies::{DevicePlan, VersionPlan, LOOSE_VERSIONS};
 use std::path::{Path, PathBuf};
 use std::{fs, io};
 

@@ -1,9 +1,9 @@
 //! Cases of device bodies.
 
-use super::bodies::{DevicePlan, VersionPlan, LOOSE_VERSIONS, TIGHT_VERSIONS};
-use super::random::Random;
-use super::wire::{extended, overwritten, pattern, Item, Opaque};
-use crate::cases::{kind, CaseFileWriter};
+use independent::cases::{kind, CaseFileWriter};
+use independent::samples::bodies::{DevicePlan, VersionPlan, LOOSE_VERSIONS, TIGHT_VERSIONS};
+use independent::samples::random::Random;
+use independent::samples::wire::{extended, overwritten, pattern, Item, Opaque};
 
 const NETIDS: [&[u8]; 32] = [
     b"tcp",
@@ -197,16 +197,16 @@ fn add_padding(bodies: &mut Vec<Vec<u8>>) {
     let wire = two_by_two().encode();
     for place in wire.padding_places() {
         for value in [1, 0x40, 0xff] {
-            let spoiled = overwritten(&wire.bytes, place, &[value]);
-            bodies.push(spoiled[..place + 1].to_vec());
-            bodies.push(spoiled);
+            let corrupted = overwritten(&wire.bytes, place, &[value]);
+            bodies.push(corrupted[..place + 1].to_vec());
+            bodies.push(corrupted);
         }
     }
     let netid = wire.places(Item::PaddingOf(Opaque::Netid))[0];
-    let spoiled = wire.holding(overwritten(&wire.bytes, netid, &[9]));
-    bodies.push(spoiled.with_uint(Item::AddressCount, 0, 9));
-    bodies.push(spoiled.with_uint(Item::LengthOf(Opaque::Address), 0, 65));
-    bodies.push(spoiled.with_uint(Item::Version, 0, 7));
+    let corrupted = wire.holding(overwritten(&wire.bytes, netid, &[9]));
+    bodies.push(corrupted.with_uint(Item::AddressCount, 0, 9));
+    bodies.push(corrupted.with_uint(Item::LengthOf(Opaque::Address), 0, 65));
+    bodies.push(corrupted.with_uint(Item::Version, 0, 7));
 }
 
 /// Lengths around 2,048, and bytes left over.

@@ -3,20 +3,20 @@
 //! of segments.
 
 use super::aimed_requests::aimed_requests;
-use super::bodies::Layout4Head;
-use super::events::{length_between, small_body};
+use super::corruptions::corruption_and_repair;
 use super::layout4s::EDGES;
-use super::random::Random;
-use super::spoilings::spoiling_and_repair;
 use super::striped_bodies::striped_body;
-use crate::cases::CaseFileWriter;
-use crate::event::{Event, RangeNumbers};
-use crate::iomode::{Iomode, IOMODE_ANY};
-use crate::range::{ByteRange, LAST_BYTE};
-use crate::segments::Segment;
-use crate::state::State;
-use crate::table_cases::TableCase;
-use crate::table_lines::table_case_line;
+use independent::cases::CaseFileWriter;
+use independent::event::{Event, RangeNumbers};
+use independent::iomode::{Iomode, IOMODE_ANY};
+use independent::range::{ByteRange, LAST_BYTE};
+use independent::samples::bodies::Layout4Head;
+use independent::samples::events::{length_between, small_body};
+use independent::samples::random::Random;
+use independent::segments::Segment;
+use independent::state::State;
+use independent::table_cases::TableCase;
+use independent::table_lines::table_case_line;
 
 /// How many random cases of the table the stored file has.
 const STORED_CASES: usize = 2_000;
@@ -98,7 +98,7 @@ impl EventSource {
     }
 
     /// The next event, and the table and the store it leaves; or some requests
-    /// for I/O; or spoilings with the calls that find them.
+    /// for I/O; or corruptions with the calls that find them.
     fn next_cases(&mut self, random: &mut Random) -> Vec<TableCase> {
         if !self.state.is_sound() {
             return vec![TableCase::Reset];
@@ -108,7 +108,7 @@ impl EventSource {
             for _ in 0..random.between(1, 5) {
                 calls.push(TableCase::Event(self.event(random)));
             }
-            return spoiling_and_repair(random, &self.state, calls);
+            return corruption_and_repair(random, &self.state, calls);
         }
         if random.once_in(6) {
             return aimed_requests(random, &self.state, MOST_REQUESTS);

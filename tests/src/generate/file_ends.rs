@@ -1,12 +1,13 @@
 //! Events at both ends of a file, whole-file events, and numbers that are
 //! refused.
 
-use super::events::{grant, layout_return, recall, show, small_body, GRANT_IOMODES};
 use super::layout4s::EDGES;
-use crate::cases::CaseFileWriter;
-use crate::event::{Event, RangeNumbers};
-use crate::range::LAST_BYTE;
-use crate::table_cases::TableCase;
+use super::{show, GRANT_IOMODES};
+use independent::cases::CaseFileWriter;
+use independent::event::{Event, RangeNumbers};
+use independent::range::LAST_BYTE;
+use independent::samples::events::{grant, layout_return, recall, small_body};
+use independent::table_cases::TableCase;
 
 pub fn add(cases: &mut CaseFileWriter) {
     add_empty_table(cases);

@@ -1,11 +1,12 @@
 //! Good and bad `layout4` bytes as grants, to an empty table and to one that
 //! holds something.
 
-use super::events::{grant, show, small_body};
 use super::layout4s::all_layouts;
-use crate::cases::CaseFileWriter;
-use crate::event::Event;
-use crate::table_cases::TableCase;
+use super::show;
+use independent::cases::CaseFileWriter;
+use independent::event::Event;
+use independent::samples::events::{grant, small_body};
+use independent::table_cases::TableCase;
 
 /// Longer ones are put to the reader alone.
 const LONGEST: usize = 200;

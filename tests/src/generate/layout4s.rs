@@ -1,10 +1,10 @@
 //! Cases of `layout4` structures.
 
-use super::bodies::{Layout4Head, LayoutPlan};
 use super::layouts::{body_of_length, limits};
-use super::random::Random;
-use super::wire::{extended, overwritten, Item};
-use crate::cases::{kind, CaseFileWriter};
+use independent::cases::{kind, CaseFileWriter};
+use independent::samples::bodies::{Layout4Head, LayoutPlan};
+use independent::samples::random::Random;
+use independent::samples::wire::{extended, overwritten, Item};
 
 /// Offsets and lengths whose pairs show every shape of a range.
 pub const EDGES: [u64; 12] = [
@@ -147,9 +147,9 @@ fn add_bodies(layouts: &mut Vec<Vec<u8>>) {
     layouts.push(head.around(&wire.with_uint(Item::ServerCount, 1, 2)));
     layouts.push(head.around(&wire.with_uint(Item::Flags, 0, 32)));
     for place in wire.padding_places() {
-        let spoiled = overwritten(&wire.bytes, place, &[4]);
-        layouts.push(extended(&head.around(&spoiled), &[0]));
-        layouts.push(head.around(&spoiled));
+        let corrupted = overwritten(&wire.bytes, place, &[4]);
+        layouts.push(extended(&head.around(&corrupted), &[0]));
+        layouts.push(head.around(&corrupted));
     }
     for mirrors in 1..=8 {
         layouts.push(head.around(&LayoutPlan::plain(mirrors, 9 - mirrors).encode().bytes));

@@ -1,9 +1,9 @@
 //! Cases of layout bodies.
 
-use super::bodies::{LayoutPlan, ServerPlan};
-use super::random::Random;
-use super::wire::{extended, overwritten, pattern, Item, Opaque, Wire};
-use crate::cases::{kind, CaseFileWriter};
+use independent::cases::{kind, CaseFileWriter};
+use independent::samples::bodies::{LayoutPlan, ServerPlan};
+use independent::samples::random::Random;
+use independent::samples::wire::{extended, overwritten, pattern, Item, Opaque, Wire};
 
 /// The most smallest servers a mirror, by mirror count, within 4,090 bytes:
 /// 20 + mirrors * (4 + 56 * servers).
@@ -242,12 +242,12 @@ fn add_sizes(bodies: &mut Vec<Vec<u8>>) {
 fn add_two_faults(bodies: &mut Vec<Vec<u8>>) {
     let wire = LayoutPlan::two_by_two().encode();
     let padding = wire.places(Item::PaddingOf(Opaque::Filehandle))[0];
-    let spoiled = overwritten(&wire.bytes, padding, &[1]);
-    bodies.push(spoiled[..padding].to_vec());
-    bodies.push(spoiled[..padding + 1].to_vec());
-    bodies.push(spoiled[..padding + 3].to_vec());
-    bodies.push(extended(&spoiled, &[0]));
-    let bad_padding = wire.holding(spoiled);
+    let corrupted = overwritten(&wire.bytes, padding, &[1]);
+    bodies.push(corrupted[..padding].to_vec());
+    bodies.push(corrupted[..padding + 1].to_vec());
+    bodies.push(corrupted[..padding + 3].to_vec());
+    bodies.push(extended(&corrupted, &[0]));
+    let bad_padding = wire.holding(corrupted);
     bodies.push(bad_padding.with_uint(Item::FilehandleCount, 0, 9));
     bodies.push(bad_padding.with_uint(Item::Flags, 0, 16));
     bodies.push(bad_padding.with_uint(Item::ServerCount, 1, 1));

@@ -1,18 +1,18 @@
 //! Where reads and writes go: rights, stripes, pieces and mirrors.
 
 use super::aimed_requests::aimed_request;
-use super::bodies::LayoutPlan;
-use super::events::{grant, layout_return, recall};
 use super::layout4s::EDGES;
-use super::random::Random;
-use super::striped_bodies::{striped_body, with_efficiencies};
-use crate::cases::CaseFileWriter;
-use crate::event::Event;
-use crate::io_request::IoRequest;
-use crate::iomode::IOMODE_ANY;
-use crate::range::LAST_BYTE;
-use crate::state::State;
-use crate::table_cases::TableCase;
+use super::striped_bodies::striped_body;
+use independent::cases::CaseFileWriter;
+use independent::event::Event;
+use independent::io_request::IoRequest;
+use independent::iomode::IOMODE_ANY;
+use independent::range::LAST_BYTE;
+use independent::samples::bodies::{with_efficiencies, LayoutPlan};
+use independent::samples::events::{grant, layout_return, recall};
+use independent::samples::random::Random;
+use independent::state::State;
+use independent::table_cases::TableCase;
 
 /// 2^44, where a unit number no longer fits 32 bits.
 const FAR: u64 = 1 << 44;
@@ -70,7 +70,7 @@ pub fn add(cases: &mut CaseFileWriter) {
     add_random_tables(cases);
     add_request_numbers(cases);
     add_last_bytes(cases);
-    add_less_lent(cases);
+    add_less_borrowed(cases);
 }
 
 /// The same bytes read and written.
@@ -231,11 +231,11 @@ fn add_last_bytes(cases: &mut CaseFileWriter) {
     }
 }
 
-/// 20 before 5 and 17, and the same answers as before once all is lent again.
-fn add_less_lent(cases: &mut CaseFileWriter) {
+/// 20 before 5 and 17, and the same answers as before once all is borrowed again.
+fn add_less_borrowed(cases: &mut CaseFileWriter) {
     start_with(cases, &[grant(2, 100, 199, &striped_body(4)), grant(1, 0, 99, &striped_body(5))]);
     for length in [32_768, 0, 32_767, 28_672, 32_768] {
-        cases.table(&TableCase::Lend(length));
+        cases.table(&TableCase::SetBorrowed(length));
         for (offset, length) in [(0, 9), (150, 99), (300, 1), (7, 0), (LAST_BYTE, 1)] {
             ask(cases, offset, length);
         }

@@ -1,19 +1,19 @@
 //! Random cases of all kinds, sound and damaged.
 
 use super::bad_records::{add_cut_record, add_record_without_form, add_unknown_kind};
-use super::bodies::{
-    encode_reports, DevicePlan, Layout4Head, LayoutPlan, ReportPlan, ServerPlan, VersionPlan, LOOSE_VERSIONS,
-    TIGHT_VERSIONS,
-};
 use super::event_bursts::EventSource;
 use super::layout4s::EDGES;
 use super::layouts::MOST_SERVERS;
-use super::random::Random;
 use super::reports_written::case_of;
-use super::wire::Wire;
-use crate::binding::BindRequest;
-use crate::cases::{kind, CaseFileWriter};
-use crate::report::DeviceError;
+use independent::binding::BindRequest;
+use independent::cases::{kind, CaseFileWriter};
+use independent::report::DeviceError;
+use independent::samples::bodies::{
+    encode_reports, DevicePlan, Layout4Head, LayoutPlan, ReportPlan, ServerPlan, VersionPlan, LOOSE_VERSIONS,
+    TIGHT_VERSIONS,
+};
+use independent::samples::random::Random;
+use independent::samples::wire::Wire;
 
 /// The longest burst of cases that concern the table.
 const LONGEST_BURST: usize = 80;
@@ -80,13 +80,13 @@ fn perhaps_damaged(random: &mut Random, wire: &Wire) -> Vec<u8> {
             bytes.resize(wire.bytes.len() + more, 0);
         }
         2 => bytes = random.one_byte_changed(&bytes),
-        3 => spoil_padding(random, wire, &mut bytes),
-        _ => spoil_item(random, wire, &mut bytes),
+        3 => corrupt_padding(random, wire, &mut bytes),
+        _ => corrupt_item(random, wire, &mut bytes),
     }
     bytes
 }
 
-fn spoil_padding(random: &mut Random, wire: &Wire, bytes: &mut [u8]) {
+fn corrupt_padding(random: &mut Random, wire: &Wire, bytes: &mut [u8]) {
     let places = wire.padding_places();
     if !places.is_empty() {
         bytes[random.pick(&places)] = random.between(1, 255) as u8;
@@ -94,7 +94,7 @@ fn spoil_padding(random: &mut Random, wire: &Wire, bytes: &mut [u8]) {
 }
 
 /// A number near a limit in the first four bytes of some item.
-fn spoil_item(random: &mut Random, wire: &Wire, bytes: &mut [u8]) {
+fn corrupt_item(random: &mut Random, wire: &Wire, bytes: &mut [u8]) {
     let numbers = [0, 1, 2, 3, 4, 5, 7, 8, 9, 15, 16, 17, 25, 38, 64, 65, 128, 129, 1 << 31, u32::MAX];
     let place = random.pick(&wire.item_places());
     if let Some(target) = bytes.get_mut(place..place + 4) {
@@ -251,7 +251,7 @@ fn add_report_write(cases: &mut CaseFileWriter, random: &mut Random) {
 #[cfg(test)]
 mod tests {
     use super::*;
-    use crate::cases::{CaseFile, Ending};
+    use independent::cases::{CaseFile, Ending};
 
     /// The number of cases read, and how the file ends.
     fn read(bytes: &[u8]) -> (usize, Ending) {

@@ -1,10 +1,11 @@
 //! Every way in which an event's range can lie to the segments that are there.
 
-use super::events::{grant, layout_return, recall, show, small_body};
-use crate::cases::CaseFileWriter;
-use crate::event::Event;
-use crate::iomode::IOMODE_ANY;
-use crate::table_cases::TableCase;
+use super::show;
+use independent::cases::CaseFileWriter;
+use independent::event::Event;
+use independent::iomode::IOMODE_ANY;
+use independent::samples::events::{grant, layout_return, recall, small_body};
+use independent::table_cases::TableCase;
 
 /// Bytes around the ends of the segment 100..109.
 const AROUND: [u64; 8] = [98, 99, 100, 101, 108, 109, 110, 111];

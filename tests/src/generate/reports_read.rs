@@ -1,11 +1,11 @@
 //! Cases of error report bodies to be read.
 
-use super::bodies::{encode_reports, good_error, ReportPlan};
 use super::layout4s::EDGES;
-use super::random::Random;
-use super::wire::{extended, Item, Wire};
-use crate::cases::{kind, CaseFileWriter};
-use crate::report::DeviceError;
+use independent::cases::{kind, CaseFileWriter};
+use independent::report::DeviceError;
+use independent::samples::bodies::{encode_reports, good_error, ReportPlan};
+use independent::samples::random::Random;
+use independent::samples::wire::{extended, Item, Wire};
 
 pub fn add(cases: &mut CaseFileWriter) {
     for body in all_bodies() {
@@ -139,12 +139,12 @@ fn add_two_faults(bodies: &mut Vec<Vec<u8>>) {
         [(Item::ErrorCount, 0), (Item::ErrorCount, 17), (Item::Status, 0), (Item::Operation, 6)];
     for (item, value) in faults {
         for which in 0..2 {
-            let spoiled = wire.holding(wire.with_uint(item, which, value));
-            bodies.push(spoiled.with_uhyper(Item::Length, 0, 0));
-            bodies.push(spoiled.with_uhyper(Item::Length, 1, 0));
-            bodies.push(spoiled.with_uint(Item::StatisticsCount, 0, 1));
-            bodies.push(spoiled.with_uint(Item::ReportCount, 0, 9));
-            bodies.push(extended(&spoiled.bytes, &[0]));
+            let corrupted = wire.holding(wire.with_uint(item, which, value));
+            bodies.push(corrupted.with_uhyper(Item::Length, 0, 0));
+            bodies.push(corrupted.with_uhyper(Item::Length, 1, 0));
+            bodies.push(corrupted.with_uint(Item::StatisticsCount, 0, 1));
+            bodies.push(corrupted.with_uint(Item::ReportCount, 0, 9));
+            bodies.push(extended(&corrupted.bytes, &[0]));
         }
     }
     let no_range = wire.with_uhyper(Item::Length, 0, 0);

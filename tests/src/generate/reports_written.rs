@@ -1,10 +1,10 @@
 //! Cases of error reports to be written.
 
-use super::bodies::{good_error, ReportPlan};
 use super::layout4s::EDGES;
 use super::reports_read::reports;
-use crate::cases::{CaseFileWriter, ReportWrite};
-use crate::report::{DeviceError, ReportHead};
+use independent::cases::{CaseFileWriter, ReportWrite};
+use independent::report::{DeviceError, ReportHead};
+use independent::samples::bodies::{good_error, ReportPlan};
 
 pub fn add(cases: &mut CaseFileWriter) {
     for case in all_cases() {
@@ -204,7 +204,7 @@ enum Fault {
     Operation,
 }
 
-fn spoil(plan: &mut ReportPlan, fault: Fault) {
+fn inject(plan: &mut ReportPlan, fault: Fault) {
     match fault {
         Fault::Range => plan.length = 0,
         Fault::NoErrors => plan.errors.clear(),
@@ -221,8 +221,8 @@ fn add_pairs_of_faults(cases: &mut Vec<ReportWrite>) {
         for (second_number, second) in faults.into_iter().enumerate() {
             for (place, other) in [(0, 0), (0, 1), (0, 2), (1, 0), (1, 2), (2, 0), (2, 1)] {
                 let mut plans = reports(&[1, 1, 2]);
-                spoil(&mut plans[place], first);
-                spoil(&mut plans[other], second);
+                inject(&mut plans[place], first);
+                inject(&mut plans[other], second);
                 let long_enough = (first_number + second_number + place) % 4 == 0;
                 cases.push(case_of(&plans, if long_enough { 208 } else { 5 }));
             }

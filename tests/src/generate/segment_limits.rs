@@ -1,11 +1,12 @@
 //! Tables with 32 segments in an iomode, and one or two less.
 
-use super::events::{grant, layout_return, recall, show, small_body, GRANT_IOMODES};
-use crate::cases::CaseFileWriter;
-use crate::event::Event;
-use crate::iomode::IOMODE_ANY;
-use crate::range::LAST_BYTE;
-use crate::table_cases::TableCase;
+use super::{show, GRANT_IOMODES};
+use independent::cases::CaseFileWriter;
+use independent::event::Event;
+use independent::iomode::IOMODE_ANY;
+use independent::range::LAST_BYTE;
+use independent::samples::events::{grant, layout_return, recall, small_body};
+use independent::table_cases::TableCase;
 
 /// The segments are 0..9, 20..29, 40..49 and so on.
 const STEP: u64 = 20;

@@ -1,12 +1,13 @@
 //! Eight bodies, a ninth, and slots that are freed and used again.
 
-use super::events::{grant, layout_return, recall, show, small_body};
 use super::layouts::body_of_length;
-use crate::cases::CaseFileWriter;
-use crate::event::Event;
-use crate::iomode::IOMODE_ANY;
-use crate::range::LAST_BYTE;
-use crate::table_cases::TableCase;
+use super::show;
+use independent::cases::CaseFileWriter;
+use independent::event::Event;
+use independent::iomode::IOMODE_ANY;
+use independent::range::LAST_BYTE;
+use independent::samples::events::{grant, layout_return, recall, small_body};
+use independent::table_cases::TableCase;
 
 /// Body number n is granted at n * 100 .. n * 100 + 49.
 const STEP: u64 = 100;

@@ -4,7 +4,7 @@ use super::{
     bindings, captured, devices, event_bursts, file_ends, granted_bytes, layout4s, layouts, locates, overlaps,
     reports_read, reports_written, segment_limits, slot_limits, unsound,
 };
-use crate::cases::CaseFileWriter;
+use independent::cases::CaseFileWriter;
 use std::io;
 
 /// The stored case file. It always ends properly, and it fails only where the

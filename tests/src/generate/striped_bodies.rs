@@ -1,6 +1,6 @@
 //! Layouts with several data servers or mirrors.
 
-use super::bodies::LayoutPlan;
+use independent::samples::bodies::{with_efficiencies, LayoutPlan};
 
 /// Mirrors and servers: small enough that many bodies can be granted.
 const SHAPES: [(usize, usize); 7] = [(1, 2), (2, 2), (1, 3), (3, 1), (1, 4), (2, 1), (1, 5)];
@@ -21,21 +21,10 @@ pub fn striped_body(number: u32) -> Vec<u8> {
     LayoutPlan { flags: number.wrapping_mul(5) % 16, hint: number, ..plan }.encode().bytes
 }
 
-/// Gives each mirror's first server its efficiency. The others get numbers that
-/// would turn the choice around.
-pub fn with_efficiencies(mut plan: LayoutPlan, efficiencies: &[u32]) -> LayoutPlan {
-    for (mirror, &efficiency) in plan.mirrors.iter_mut().zip(efficiencies) {
-        for (stripe, server) in mirror.iter_mut().enumerate() {
-            server.efficiency = if stripe == 0 { efficiency } else { u32::MAX - efficiency };
-        }
-    }
-    plan
-}
-
 #[cfg(test)]
 mod tests {
     use super::*;
-    use crate::layout::read_layout_body;
+    use independent::layout::read_layout_body;
     use std::collections::HashSet;
 
     #[test]

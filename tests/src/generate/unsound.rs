@@ -1,26 +1,27 @@
-//! Tables and stores that were spoiled: each of the four events and each request
+//! Corrupted tables and stores: each of the four events and each request
 //! for I/O is refused as 20, whatever else would be wrong with it.
 
-use super::events::{grant, layout_return, recall, show, small_body};
-use crate::cases::CaseFileWriter;
-use crate::event::{Event, RangeNumbers};
-use crate::io_request::IoRequest;
-use crate::iomode::Iomode;
-use crate::range::LAST_BYTE;
-use crate::segments::{Right, Segment};
-use crate::store::{BODY_IN_SLOT, SLOT_LENGTH, STORE_LENGTH};
-use crate::table_cases::TableCase;
+use super::show;
+use independent::cases::CaseFileWriter;
+use independent::event::{Event, RangeNumbers};
+use independent::io_request::IoRequest;
+use independent::iomode::Iomode;
+use independent::range::LAST_BYTE;
+use independent::samples::events::{grant, layout_return, recall, small_body};
+use independent::segments::{Right, Segment};
+use independent::store::{BODY_IN_SLOT, SLOT_LENGTH, STORE_LENGTH};
+use independent::table_cases::TableCase;
 
 pub fn add(cases: &mut CaseFileWriter) {
-    for spoiling in spoiled_slots().into_iter().chain(spoiled_places()) {
-        add_spoiled(cases, &[spoiling]);
+    for corruption in corrupt_slots().into_iter().chain(corrupt_places()) {
+        add_corrupted(cases, &[corruption]);
     }
     for length in [0, 1, 4_095, 4_096, 32_767, 32_768] {
-        add_spoiled(cases, &[TableCase::Lend(length)]);
+        add_corrupted(cases, &[TableCase::SetBorrowed(length)]);
     }
-    add_spoiled(cases, &bodies_made_alike());
-    add_spoiled(cases, &segments_swapped());
-    add_lent_again(cases);
+    add_corrupted(cases, &bodies_made_alike());
+    add_corrupted(cases, &segments_swapped());
+    add_borrowed_again(cases);
     add_full_by_hand(cases);
 }
 
@@ -45,15 +46,15 @@ fn add_sound_start(cases: &mut CaseFileWriter) {
     cases.event(grant(1, 50, 59, &one));
 }
 
-fn add_spoiled(cases: &mut CaseFileWriter, spoilings: &[TableCase]) {
+fn add_corrupted(cases: &mut CaseFileWriter, corruptions: &[TableCase]) {
     add_sound_start(cases);
-    spoilings.iter().for_each(|spoiling| cases.table(spoiling));
+    corruptions.iter().for_each(|corruption| cases.table(corruption));
     add_each_call(cases);
     show(cases);
 }
 
 /// Requests for I/O, bytes and numbers that are refused otherwise come first:
-/// they change nothing where the spoiled table is sound after all.
+/// they change nothing where the corrupted table is sound after all.
 fn add_each_call(cases: &mut CaseFileWriter) {
     let [one, _] = two_bodies();
     cases.locate(IoRequest::read(55, 50));
@@ -71,7 +72,7 @@ fn add_each_call(cases: &mut CaseFileWriter) {
 
 /// One byte set, in a header, a body, the zeros behind it, or a slot that no
 /// segment names. Some of these leave an accepted body.
-fn spoiled_slots() -> Vec<TableCase> {
+fn corrupt_slots() -> Vec<TableCase> {
     let length = two_bodies()[0].len();
     let behind = BODY_IN_SLOT + length;
     let in_slot = [0, 1, 2, 3, 4, 5, 6, 13, 17, 21, 40, 45, 61, 65].into_iter().chain([
@@ -114,7 +115,7 @@ fn set(iomode: Iomode, place: usize, first: u64, last: u64, right: Right) -> Tab
 }
 
 /// One place of the table set. Some of these are sound.
-fn spoiled_places() -> Vec<TableCase> {
+fn corrupt_places() -> Vec<TableCase> {
     let mut cases = Vec::new();
     let rw = |place, first, last, right| set(Iomode::ReadWrite, place, first, last, right);
     for right in [Right::None, Right::Granted(0), Right::Recalled(0), Right::Granted(1)] {
@@ -149,17 +150,17 @@ fn segments_swapped() -> [TableCase; 2] {
     [set(Iomode::ReadWrite, 0, 200, LAST_BYTE, Right::Granted(1)), set(Iomode::ReadWrite, 3, 0, 9, Right::Granted(0))]
 }
 
-/// The whole store lent again, and a byte set while less was lent.
-fn add_lent_again(cases: &mut CaseFileWriter) {
+/// The whole store borrowed again, and a byte set while less was borrowed.
+fn add_borrowed_again(cases: &mut CaseFileWriter) {
     add_sound_start(cases);
-    cases.table(&TableCase::Lend(100));
+    cases.table(&TableCase::SetBorrowed(100));
     cases.table(&TableCase::SetByte { place: 9_000, value: 7 });
     cases.event(Event::Revoke);
-    cases.table(&TableCase::Lend(STORE_LENGTH));
+    cases.table(&TableCase::SetBorrowed(STORE_LENGTH));
     cases.event(Event::Revoke);
     cases.table(&TableCase::SetByte { place: 9_000, value: 0 });
     cases.event(recall(3, 55, 55));
-    cases.table(&TableCase::Lend(STORE_LENGTH - 1));
+    cases.table(&TableCase::SetBorrowed(STORE_LENGTH - 1));
     add_each_call(cases);
     cases.table(&TableCase::Reset);
     cases.event(grant(2, 0, 9, &small_body(3)));

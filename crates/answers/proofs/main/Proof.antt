@@ -1,4 +1,4 @@
--- `answers::main` is safe and ends. The buffers keep their lengths. A record has at least one byte, so each turn brings the place nearer to the bound.
+-- `answers::main` is safe and ends. The buffers keep their lengths. A record has at least one byte, so each step brings the place nearer to the bound.
 use Prim.Native.Nat.{_-_}
 use borrow.Author.Needs.{needs}
 use lib.ListN.{length, length-take}
@@ -8,10 +8,10 @@ use Rattle.answers.proofs.main.Statement.{statement}
 use Rattle.answers.proofs.main.Tie as tie
 
 abbrev Inv-loop : tie.InvT-loop
-Inv-loop payload₀ store₀ state₀ place₀ payload store state place = (length payload ≡ 16000) × (length store ≡ 32768)
+Inv-loop payload₀ store₀ state₀ place₀ payload store state offset = (length payload ≡ 16000) × (length store ≡ 32768)
 
 abbrev μ-loop : tie.MeasureT-loop
-μ-loop payload₀ store₀ state₀ place₀ payload store state place = 9223372036854775808 - place
+μ-loop payload₀ store₀ state₀ place₀ payload store state offset = 9223372036854775808 - offset
 
 start-requires : tie.Need-start-requires Inv-loop μ-loop
 start-requires c κs = search needs
@@ -19,17 +19,17 @@ start-requires c κs = search needs
 loop-holds : tie.Need-loop-holds Inv-loop μ-loop
 loop-holds c = search needs
 
-slice-aggregate-read-record : tie.Need-slice-aggregate-read-record Inv-loop μ-loop
-slice-aggregate-read-record c = search needs
+slice-aggregate-read-case : tie.Need-slice-aggregate-read-case Inv-loop μ-loop
+slice-aggregate-read-case c = search needs
 
-read-record-requires : tie.Need-read-record-requires Inv-loop μ-loop
-read-record-requires c κs = search needs
+read-case-requires : tie.Need-read-case-requires Inv-loop μ-loop
+read-case-requires c κs = search needs
 
 enum-known-r : tie.Need-enum-known-r Inv-loop μ-loop
 enum-known-r c = search needs
 
-say-last-requires : tie.Need-say-last-requires Inv-loop μ-loop
-say-last-requires c κs = search needs
+print-last-requires : tie.Need-print-last-requires Inv-loop μ-loop
+print-last-requires c κs = search needs
 
 returns : tie.Need-returns Inv-loop μ-loop
 returns c = search needs
@@ -58,14 +58,14 @@ end-line-requires c κs = search needs
 returns-3 : tie.Need-returns-3 Inv-loop μ-loop
 returns-3 c = search needs
 
-cast-place : tie.Need-cast-place Inv-loop μ-loop
-cast-place c = search needs
+cast-offset : tie.Need-cast-offset Inv-loop μ-loop
+cast-offset c = search needs
 
-add-place : tie.Need-add-place Inv-loop μ-loop
-add-place c = search needs
+add-offset : tie.Need-add-offset Inv-loop μ-loop
+add-offset c = search needs
 
-add-place-2 : tie.Need-add-place-2 Inv-loop μ-loop
-add-place-2 c = search needs
+add-offset-2 : tie.Need-add-offset-2 Inv-loop μ-loop
+add-offset-2 c = search needs
 
 loop-less : tie.Need-loop-less Inv-loop μ-loop
 loop-less c = search needs
@@ -84,10 +84,10 @@ main-spec =
     μ-loop
     start-requires
     loop-holds
-    slice-aggregate-read-record
-    read-record-requires
+    slice-aggregate-read-case
+    read-case-requires
     enum-known-r
-    say-last-requires
+    print-last-requires
     returns
     cast-size
     returns-2
@@ -97,9 +97,9 @@ main-spec =
     take-case-requires
     end-line-requires
     returns-3
-    cast-place
-    add-place
-    add-place-2
+    cast-offset
+    add-offset
+    add-offset-2
     loop-less
     loop-again
     returns-4)

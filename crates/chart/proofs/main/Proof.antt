@@ -5,8 +5,8 @@ use native.Mathlib.Omega.{arith}
 use Rattle.chart.proofs.main.Statement.{statement}
 use Rattle.chart.proofs.main.Tie as tie
 
-read-wish-requires : tie.Need-read-wish-requires
-read-wish-requires c κs = search needs
+read-options-requires : tie.Need-read-options-requires
+read-options-requires c κs = search needs
 
 enum-known-w : tie.Need-enum-known-w
 enum-known-w c = search needs
@@ -14,8 +14,8 @@ enum-known-w c = search needs
 enum-told : tie.Need-enum-told
 enum-told c = search needs
 
-say-usage-requires : tie.Need-say-usage-requires
-say-usage-requires c κs = search needs
+print-usage-requires : tie.Need-print-usage-requires
+print-usage-requires c κs = search needs
 
 returns : tie.Need-returns
 returns c = search needs
@@ -54,10 +54,10 @@ pub main-spec : {M : Type 1} → statement M
 main-spec =
     tie.close
     (tie.spec
-    read-wish-requires
+    read-options-requires
     enum-known-w
     enum-told
-    say-usage-requires
+    print-usage-requires
     returns
     slice-aggregate-read-file
     read-file-requires

@@ -1,5 +1,5 @@
--- `claims::demand_3` is the law of the same content in `agreement`.
-use Rattle.agreement.proofs.Demand.{calls-meet-demand-3}
+-- `claims::demand_3` is the law of the same content in `refinement`.
+use Rattle.refinement.proofs.Demand.{calls-meet-demand-3}
 use Rattle.claims.proofs.demand_3.Statement.{statement}
 use Rattle.claims.proofs.demand_3.Tie as tie
 

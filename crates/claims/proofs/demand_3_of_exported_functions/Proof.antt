@@ -1,5 +1,5 @@
--- `claims::demand_3_of_exported_functions` is two laws of `driver`.
-use Rattle.driver.proofs.ListLaws.{record-left, records-meet-demand-3}
+-- `claims::demand_3_of_exported_functions` is two laws of `basilothyn`.
+use Rattle.basilothyn.proofs.RecordDemand.{record-left, records-meet-demand-3}
 use Rattle.claims.proofs.demand_3_of_exported_functions.Statement.{statement}
 use Rattle.claims.proofs.demand_3_of_exported_functions.Tie as tie
 

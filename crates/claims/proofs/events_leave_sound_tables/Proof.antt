@@ -1,5 +1,5 @@
--- `claims::events_leave_sound_tables` is the law of the same content in `agreement`.
-use Rattle.agreement.proofs.Unchanged.{sound-after}
+-- `claims::events_leave_sound_tables` is the law of the same content in `refinement`.
+use Rattle.refinement.proofs.Unchanged.{sound-after}
 use Rattle.claims.proofs.events_leave_sound_tables.Statement.{statement}
 use Rattle.claims.proofs.events_leave_sound_tables.Tie as tie
 

@@ -1,5 +1,5 @@
--- `claims::events_on_any_table` is the law of the same content in `agreement`.
-use Rattle.agreement.proofs.AnyTable.{sound-step}
+-- `claims::events_on_any_table` is the law of the same content in `refinement`.
+use Rattle.refinement.proofs.AnyTable.{sound-step}
 use Rattle.claims.proofs.events_on_any_table.Statement.{statement}
 use Rattle.claims.proofs.events_on_any_table.Tie as tie
 

@@ -1,5 +1,5 @@
--- `claims::exported_events_are_the_events` is the law of the same content in `driver`.
-use Rattle.driver.proofs.ListLaws.{on-record}
+-- `claims::exported_events_are_the_events` is the law of the same content in `basilothyn`.
+use Rattle.basilothyn.proofs.RecordDemand.{on-record}
 use Rattle.claims.proofs.exported_events_are_the_events.Statement.{statement}
 use Rattle.claims.proofs.exported_events_are_the_events.Tie as tie
 

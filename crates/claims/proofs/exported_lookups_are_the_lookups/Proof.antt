@@ -1,5 +1,5 @@
--- `claims::exported_lookups_are_the_lookups` is the law of the same content in `driver`.
-use Rattle.driver.proofs.ListLaws.{on-record-routed}
+-- `claims::exported_lookups_are_the_lookups` is the law of the same content in `basilothyn`.
+use Rattle.basilothyn.proofs.RecordDemand.{on-record-routed}
 use Rattle.claims.proofs.exported_lookups_are_the_lookups.Statement.{statement}
 use Rattle.claims.proofs.exported_lookups_are_the_lookups.Tie as tie
 

@@ -1,5 +1,5 @@
--- `claims::no_report_is_eight_zeros` is two laws of `report_write`.
-use Rattle.report_write.proofs.RoundTrip.{nothing-read, nothing-written}
+-- `claims::no_report_is_eight_zeros` is two laws of `report`.
+use Rattle.report.proofs.ReportRoundTrip.{nothing-read, nothing-written}
 use Rattle.claims.proofs.no_report_is_eight_zeros.Statement.{statement}
 use Rattle.claims.proofs.no_report_is_eight_zeros.Tie as tie
 

@@ -1,5 +1,5 @@
 -- `claims::numbers_read_are_written` is a law of `numbers`.
-use Rattle.numbers.proofs.NumberLaws.{be-back}
+use Rattle.bytes.proofs.NumberLaws.{be-back}
 use Rattle.claims.proofs.numbers_read_are_written.Statement.{statement}
 use Rattle.claims.proofs.numbers_read_are_written.Tie as tie
 

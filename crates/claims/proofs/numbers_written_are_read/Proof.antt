@@ -1,5 +1,5 @@
 -- `claims::numbers_written_are_read` is a law of `numbers`.
-use Rattle.numbers.proofs.NumberLaws.{be-round}
+use Rattle.bytes.proofs.NumberLaws.{be-round}
 use Rattle.claims.proofs.numbers_written_are_read.Statement.{statement}
 use Rattle.claims.proofs.numbers_written_are_read.Tie as tie
 

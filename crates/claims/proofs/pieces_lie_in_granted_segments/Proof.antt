@@ -10,8 +10,8 @@ returns c =
     record {
       mode = h .mode;
       named = h .iomode;
-      place = h .place;
-      there = h .placed;
+      index = h .index;
+      there = h .in-list;
       first = h .first;
       last = h .last;
       right = h .right;

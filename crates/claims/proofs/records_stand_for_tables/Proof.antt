@@ -1,5 +1,5 @@
 -- `claims::records_stand_for_tables` is the law of the same content in `record`.
-use Rattle.record.proofs.RoundTrip.{record-back, table-back}
+use Rattle.abi_table.proofs.TableRoundTrip.{record-back, table-back}
 use Rattle.claims.proofs.records_stand_for_tables.Statement.{statement}
 use Rattle.claims.proofs.records_stand_for_tables.Tie as tie
 

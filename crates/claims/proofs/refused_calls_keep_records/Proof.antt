@@ -1,5 +1,5 @@
--- `claims::refused_calls_keep_records` is the law of the same content in `driver`.
-use Rattle.driver.proofs.Unchanged.{refused-call-keeps}
+-- `claims::refused_calls_keep_records` is the law of the same content in `basilothyn`.
+use Rattle.basilothyn.proofs.RecordUnchanged.{refused-call-keeps}
 use Rattle.claims.proofs.refused_calls_keep_records.Statement.{statement}
 use Rattle.claims.proofs.refused_calls_keep_records.Tie as tie
 

@@ -1,5 +1,5 @@
--- `claims::refused_events_change_nothing` is the law of the same content in `agreement`.
-use Rattle.agreement.proofs.Unchanged.{refusal-keeps}
+-- `claims::refused_events_change_nothing` is the law of the same content in `refinement`.
+use Rattle.refinement.proofs.Unchanged.{refusal-keeps}
 use Rattle.claims.proofs.refused_events_change_nothing.Statement.{statement}
 use Rattle.claims.proofs.refused_events_change_nothing.Tie as tie
 

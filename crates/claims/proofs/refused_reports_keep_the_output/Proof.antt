@@ -1,6 +1,6 @@
--- `claims::refused_reports_keep_the_output` is a law of `report_write`.
+-- `claims::refused_reports_keep_the_output` is a law of `report`.
 use mathlib.Core.Path.{sym}
-use Rattle.report_write.proofs.StoringLaws.{written-refused}
+use Rattle.report.proofs.StoringLaws.{written-refused}
 use Rattle.claims.proofs.refused_reports_keep_the_output.Statement.{statement}
 use Rattle.claims.proofs.refused_reports_keep_the_output.Tie as tie
 

@@ -1,5 +1,5 @@
--- `claims::reports_read_are_written` is a law of `report_write`.
-use Rattle.report_write.proofs.RoundTrip.{writing-what-was-read}
+-- `claims::reports_read_are_written` is a law of `report`.
+use Rattle.report.proofs.ReportRoundTrip.{writing-what-was-read}
 use Rattle.claims.proofs.reports_read_are_written.Statement.{statement}
 use Rattle.claims.proofs.reports_read_are_written.Tie as tie
 

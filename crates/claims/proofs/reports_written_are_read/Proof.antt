@@ -1,5 +1,5 @@
--- `claims::reports_written_are_read` is a law of `report_write`.
-use Rattle.report_write.proofs.RoundTrip.{reading-what-was-written}
+-- `claims::reports_written_are_read` is a law of `report`.
+use Rattle.report.proofs.ReportRoundTrip.{reading-what-was-written}
 use Rattle.claims.proofs.reports_written_are_read.Statement.{statement}
 use Rattle.claims.proofs.reports_written_are_read.Tie as tie
 

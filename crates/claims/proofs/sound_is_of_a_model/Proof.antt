@@ -1,5 +1,5 @@
--- `claims::sound_is_of_a_model` is two laws of `reference`.
-use Rattle.reference.proofs.FromSound.{of-model-sound, sound-of-model}
+-- `claims::sound_is_of_a_model` is two laws of `model`.
+use Rattle.soundness.proofs.FromSound.{of-model-sound, sound-of-model}
 use Rattle.claims.proofs.sound_is_of_a_model.Statement.{statement}
 use Rattle.claims.proofs.sound_is_of_a_model.Tie as tie
 

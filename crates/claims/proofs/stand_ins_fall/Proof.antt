@@ -1,6 +1,6 @@
--- `claims::stand_ins_fall` is three laws of `reference`, of calls that keep the table.
+-- `claims::stand_ins_fall` is three laws of `model`, of calls that keep the table.
 use Rattle.segments.specs.Segments.{emptyTable}
-use Rattle.reference.proofs.StandIns.{changes-nothing-falls, first-only-falls, refuses-all-falls}
+use Rattle.model.proofs.StandIns.{changes-nothing-falls, first-only-falls, refuses-all-falls}
 use Rattle.claims.proofs.stand_ins_fall.Statement.{statement}
 use Rattle.claims.proofs.stand_ins_fall.Tie as tie
 

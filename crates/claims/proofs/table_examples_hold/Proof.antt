@@ -1,5 +1,5 @@
--- `claims::table_examples_hold` is the law of the same content in `reference`.
-use Rattle.reference.proofs.Examples.{cases-hold}
+-- `claims::table_examples_hold` is the law of the same content in `model`.
+use Rattle.model.proofs.Examples.{cases-hold}
 use Rattle.claims.proofs.table_examples_hold.Statement.{statement}
 use Rattle.claims.proofs.table_examples_hold.Tie as tie
 

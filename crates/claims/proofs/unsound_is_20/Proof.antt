@@ -1,17 +1,17 @@
--- `claims::unsound_is_20` is by the definitions, and two laws of `driver` of a record that is no table.
+-- `claims::unsound_is_20` is by the definitions, and two laws of `basilothyn` of a record that is no table.
 use Rattle.base.specs.Answer.{pick}
-use Rattle.events.specs.Events.{called}
+use Rattle.events.specs.Events.{eventResult}
 use Rattle.route.specs.Routes.{routed}
-use Rattle.driver.proofs.Unchanged.{no-table-called, no-table-routed}
+use Rattle.basilothyn.proofs.RecordUnchanged.{no-table-event, no-table-routed}
 use Rattle.claims.proofs.unsound_is_20.Statement.{statement}
 use Rattle.claims.proofs.unsound_is_20.Tie as tie
 
 returns : tie.Need-returns
-unfolding called routed pick
+unfolding eventResult routed pick
 returns c = (
   λ e t store h. rw h,
   λ write t store offset len h. rw h,
-  λ e given store n h. no-table-called given n h store e,
+  λ e given store n h. no-table-event given n h store e,
   λ write given store offset len n h. no-table-routed given n h store write offset len,
 )
 

@@ -1,5 +1,5 @@
--- `claims::whole_file_events_always_fit` is the law of the same content in `agreement`.
-use Rattle.agreement.proofs.WholeFile.{whole-recall, whole-return, whole-revoke}
+-- `claims::whole_file_events_always_fit` is the law of the same content in `refinement`.
+use Rattle.refinement.proofs.WholeFile.{whole-recall, whole-return, whole-revoke}
 use Rattle.claims.proofs.whole_file_events_always_fit.Statement.{statement}
 use Rattle.claims.proofs.whole_file_events_always_fit.Tie as tie
 

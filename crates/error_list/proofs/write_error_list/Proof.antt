@@ -1,4 +1,4 @@
--- `error_list::write_error_list` meets its contract: a walk of its MIR, by hand. A local array is lent to `put_records` as a `&mut [u8]`, for a lifetime of the call, and then to
+-- `error_list::write_error_list` meets its contract: a walk of its MIR, by hand. A local array is borrowed by `put_entries` as a `&mut [u8]`, for a lifetime of the call, and then to
 -- `write_reports` as a `&[u8]`, for another.
 use mathlib.Core.Path.{_≡_, refl, sym, ap, subst, _∙_}
 use Prim.Native.Nat.{ℕ, _<_, _≤_, _^_, _*_, min}
@@ -49,28 +49,28 @@ use Rattle.base.specs.Answer.{Answer}
 use Rattle.report.specs.declared.ReportHead.{ReportHead}
 use Rattle.report.proofs.ReportHead as P
 use Rattle.report.proofs.ReportHead.Laws as P′
-use Rattle.report_write.specs.Writing.{outputAfter, recordsAt, reportsWritten}
-use Rattle.report_write.specs.Answers.{answerOfWritten, lengthOf}
-use Rattle.report_write.specs.declared.body.Written.{Written}
-use Rattle.report_write.proofs.body.Written as N
-use Rattle.report_write.proofs.body.Written.Laws as N′
-use Rattle.report_write.proofs.write_reports as body
-use Rattle.report_write.proofs.write_reports.Symbol as body-def
-use Rattle.report_write.proofs.write_reports.Symbol.{name as #report-write·write-reports}
-use Rattle.report_write.proofs.write_reports.Met as body-thm
-use Rattle.error_list.specs.Records.{recordsOf}
-use Rattle.error_list.specs.declared.ErrorRecord.{ErrorRecord}
+use Rattle.report.specs.Writing.{outputAfter, entriesAt, reportsWritten}
+use Rattle.report.specs.WriteAnswers.{answerOfWritten, lengthOf}
+use Rattle.report.specs.declared.write.Written.{Written}
+use Rattle.report.proofs.write.Written as N
+use Rattle.report.proofs.write.Written.Laws as N′
+use Rattle.report.proofs.write_reports as body
+use Rattle.report.proofs.write_reports.Symbol as body-def
+use Rattle.report.proofs.write_reports.Symbol.{name as #report·write-reports}
+use Rattle.report.proofs.write_reports.Met as body-thm
+use Rattle.error_list.specs.Entries.{entriesOf}
+use Rattle.error_list.specs.declared.ErrorEntry.{ErrorEntry}
 use Rattle.error_list.proofs.Local.{bytes, big-lit, vals as byte-vals, zeros-is, apart, together, Parts, shared, unshared}
-use Rattle.error_list.proofs.WireRecords.{written-from}
-use Rattle.error_list.proofs.ErrorRecord as T
-use Rattle.error_list.proofs.records_used as used
-use Rattle.error_list.proofs.records_used.Symbol as used-def
-use Rattle.error_list.proofs.records_used.Symbol.{name as #error-list·records-used}
-use Rattle.error_list.proofs.records_used.Met as used-thm
-use Rattle.error_list.proofs.put_records as put
-use Rattle.error_list.proofs.put_records.Symbol as put-def
-use Rattle.error_list.proofs.put_records.Symbol.{name as #error-list·put-records}
-use Rattle.error_list.proofs.put_records.Met as put-thm
+use Rattle.error_list.proofs.WireEntries.{written-from}
+use Rattle.error_list.proofs.ErrorEntry as T
+use Rattle.error_list.proofs.entries_used as used
+use Rattle.error_list.proofs.entries_used.Symbol as used-def
+use Rattle.error_list.proofs.entries_used.Symbol.{name as #error-list·entries-used}
+use Rattle.error_list.proofs.entries_used.Met as used-thm
+use Rattle.error_list.proofs.put_entries as put
+use Rattle.error_list.proofs.put_entries.Symbol as put-def
+use Rattle.error_list.proofs.put_entries.Symbol.{name as #error-list·put-entries}
+use Rattle.error_list.proofs.put_entries.Met as put-thm
 use Rattle.error_list.proofs.write_error_list.Key.{name as #error-list·write-error-list}
 use Rattle.error_list.proofs.write_error_list as this
 use Rattle.error_list.proofs.write_error_list.Statement as stated
@@ -119,7 +119,7 @@ module _ {M : Type 1} (𝓤 : URA M) (H : Heap 𝓤) (A : Atoms 𝓤) (run-mem :
   used-said m n = exE 𝓤 _ (λ ws. snd∗ 𝓤 (sem 𝓤 H A (lasts used.ended tt (m, tt) ws)) (fact 𝓤 (n ≡ min m 128)))
 
 module _ {M : Type 1} (𝓤 : URA M) (H : Heap 𝓤) (A : Atoms 𝓤) (W : Given 𝓤 H A) (run-mem : Memory → SProp 𝓤) (run : Routine → Fun 𝓤)
-    (κ κ′ : Lft) (q q′ : Share) (c : ℕ) (hs : List ReportHead) (x : RefT (List ErrorRecord)) (x′ : RefT (List ℕ))
+    (κ κ′ : Lft) (q q′ : Share) (c : ℕ) (hs : List ReportHead) (x : RefT (List ErrorEntry)) (x′ : RefT (List ℕ))
     (c-fits : c < 2 ^ 32) (good : Is Heads hs (mach hs)) (roomy : Room T.the-row (length (x .now))) (roomy′ : Room u8 (length (x′ .now))) where
   abbrev m : ℕ
   m = length (x .now)
@@ -131,7 +131,7 @@ module _ {M : Type 1} (𝓤 : URA M) (H : Heap 𝓤) (A : Atoms 𝓤) (W : Given
   s′ = sliceVal (x′ .ptr) (length (x′ .now))
 
   abbrev Arg : Type 0
-  Arg = ℕ × (List ReportHead × (RefT (List ErrorRecord) × (RefT (List ℕ) × Unit {0})))
+  Arg = ℕ × (List ReportHead × (RefT (List ErrorEntry) × (RefT (List ℕ) × Unit {0})))
 
   abbrev a : Arg
   a = (c, (hs, (x, (x′, tt))))
@@ -152,21 +152,21 @@ module _ {M : Type 1} (𝓤 : URA M) (H : Heap 𝓤) (A : Atoms 𝓤) (W : Given
   abbrev Output : Fml
   Output = MutSlice (named 1) κ′ u8 .own x′ (s′ ∷ [])
 
-  -- the answer, from the wire records in zs and from the list
+  -- the answer, from the wire entries in zs and from the list
   abbrev From : List ℕ → Answer (List ℕ)
-  From zs = reportsWritten c hs (recordsAt m zs 0) (length (x′ .now))
+  From zs = reportsWritten c hs (entriesAt m zs 0) (length (x′ .now))
 
   abbrev Asked : Answer (List ℕ)
-  Asked = reportsWritten c hs (recordsOf (x .now)) (length (x′ .now))
+  Asked = reportsWritten c hs (entriesOf (x .now)) (length (x′ .now))
 
-  -- the call of `records_used`
+  -- the call of `entries_used`
   abbrev to-used : Used 𝓤 H A run-mem run .Ghost
   to-used = ((tt, tt, tt, (m, tt), (vint w64 m ∷ [], tt)), tt)
 
   goes-used : ent 𝓤 (sem 𝓤 H A ftrue) (Used 𝓤 H A run-mem run .pre to-used)
   goes-used = qed W (‵ ftrue ∷ []) ∵ owned ! usize (Is usize) (uint-makes 𝓤 H A W w64) m _ (refl, roomy .0) $ fjoin ! $ nothing ! $ join ! $ frame ! $ done !
 
-  -- the call of `put_records`: the array lent as a slice at the place l for the lifetime ν, under the name δ
+  -- the call of `put_entries`: the array borrowed as a slice at the place l for the lifetime ν, under the name δ
   abbrev buf : GName → ℕ → RefT (List ℕ)
   buf δ l = record { ptr = (l, 0); name = δ; now = zeros }
 
@@ -184,9 +184,9 @@ module _ {M : Type 1} (𝓤 : URA M) (H : Heap 𝓤) (A : Atoms 𝓤) (W : Given
       nothing ! $ owned ! usize (Is usize) (uint-makes 𝓤 H A W w64) n _ (refl, n-fits) $ fjoin ! $ move ! (2 ∷ 0 ∷ []) $ fjoin ! $ move ! (1 ∷ 0 ∷ []) $ fjoin ! $ done !
 
   abbrev Laid : ℕ → List ℕ → Type 0
-  Laid n zs = recordsAt n zs 0 ≡ recordsOf (take n (x .now))
+  Laid n zs = entriesAt n zs 0 ≡ entriesOf (take n (x .now))
 
-  -- the call of `write_reports`: the array, at the list zs, lent as a shared slice in the same way
+  -- the call of `write_reports`: the array, at the list zs, borrowed as a shared slice in the same way
   abbrev wire : GName → ℕ → List ℕ → RefT (List ℕ)
   wire δ l zs = record { ptr = (l, 0); name = δ; now = zs }
 
@@ -220,8 +220,8 @@ module _ {M : Type 1} (𝓤 : URA M) (H : Heap 𝓤) (A : Atoms 𝓤) (W : Given
       owned ! Heads (Is Heads) (array-makes 𝓤 H A W P.the-row (LL.makes P.the-type P′.the-plain 𝓤 H A) 8) hs _ good $ fjoin ! $
       owned ! u32 (Is u32) (uint-makes 𝓤 H A W w32) c _ (refl, c-fits) $ fjoin ! $ frame ! $ done !
 
-  module _ (C : Calls 𝓤 H) (Λ : Loops 𝓤 H) (fm : FmC 𝓤 H (W .laws) C) (known-used : Triple 𝓤 (C #error-list·records-used) (Used 𝓤 H A run-mem run))
-      (known-put : Triple 𝓤 (C #error-list·put-records) (Put 𝓤 H A run-mem run)) (known-body : Triple 𝓤 (C #report-write·write-reports) (Body 𝓤 H A run-mem run)) where
+  module _ (C : Calls 𝓤 H) (Λ : Loops 𝓤 H) (fm : FmC 𝓤 H (W .laws) C) (known-used : Triple 𝓤 (C #error-list·entries-used) (Used 𝓤 H A run-mem run))
+      (known-put : Triple 𝓤 (C #error-list·put-entries) (Put 𝓤 H A run-mem run)) (known-body : Triple 𝓤 (C #report·write-reports) (Body 𝓤 H A run-mem run)) where
     walk : ent 𝓤 (onEntry 𝓤 H A this.signature (κ, (κ′, tt)) (q, (q′, tt)) a vals) (WpFn 𝓤 H C Λ code.function (vint w32 c ∷ only (mach hs) ∷ s ∷ s′ ∷ []) Post)
     walk =
         qed W ((‵ (flft κ q) ⊛ (‵ (flft κ′ q′) ⊛ ‵ ftrue)) ∷ ‵ (owns (u32 ∷ Heads ∷ ShrSlice (named 0) κ T.the-row ∷ MutSlice (named 1) κ′ u8 ∷ []) a vals) ∷ []) ∵
@@ -242,7 +242,7 @@ module _ {M : Type 1} (𝓤 : URA M) (H : Heap 𝓤) (A : Atoms 𝓤) (W : Given
         assigns ! (rep ! 3072 (lit ! tt)) (from ! (stop !)) (init ! 16 refl (array-lawful 𝓤 H A W u8 (uint-lawful 𝓤 H A W w8) 3072 .typed zeros _ (zeros-is 3072) .0)) $
         assigns ! (addr ! (from ! (stop !))) (from ! (stop !)) (init ! 10 refl (tt, tt)) $
         assigns ! (agg ! (and-then ! (load ! (from ! (stop !)) (look ! 10 refl)) (and-then ! (big-lit ! (record { fits = lit< tt })) (no-more !)))) (from ! (stop !)) (init ! 8 refl (tt, (tt, (record { fits = lit< tt }, tt)))) $
-        -- the array is lent as a slice, for a lifetime ν of the call
+        -- the array is borrowed as a slice, for a lifetime ν of the call
         move ! (16 ∷ []) $ use1 W (‵ (cells (mem u8) zeros l₆ 0)) (apart 𝓤 H A W 3072 l₆ zeros (arrayVal (replicate 3072 (vint w8 0))) (zeros-is 3072)) $ lft-new ! tt (λ ν. move ! (1 ∷ []) $
         use1 W (later (some (λ (δ : GName). ‵ (Buf ν δ l₆ (length zeros)) ⊛ ‵ (flent (ν ∷ []) (Held u8 (length zeros) l₆ 0 δ))))) (lends-slice 𝓤 H A W u8 (named 0) (ν ∷ []) zeros l₆ 0 roomy-zeros) $ await ! tt $ pick ! (λ δ. split ! $
         rewrite ! 0 (λ (k : ℕ). ‵ (Buf ν δ l₆ k)) zeros-long refl $
@@ -270,7 +270,7 @@ module _ {M : Type 1} (𝓤 : URA M) (H : Heap 𝓤) (A : Atoms 𝓤) (W : Given
         assigns ! (agg ! (and-then ! (load ! (from ! (stop !)) (look ! 13 refl)) (and-then ! (big-lit ! (record { fits = lit< tt })) (no-more !)))) (from ! (stop !)) (init ! 11 refl (tt, (tt, (record { fits = lit< tt }, tt)))) $
         assigns ! (addr ! (from ! (fld ! refl (hop ! (look-in ! 26 (sub ! 0 refl (whole !))) (stop !))))) (from ! (stop !)) (init ! 9 refl (tt, tt)) $
         assigns ! (agg ! (and-then ! (load ! (from ! (stop !)) (look ! 9 refl)) (and-then ! (load ! (from ! (fld ! refl (stop !))) (look-in ! 26 (sub ! 1 refl (whole !)))) (no-more !)))) (from ! (stop !)) (init ! 7 refl (tt, (tt, (record { fits = roomy′ .0 }, tt)))) $
-        -- the array is lent as a shared slice, for a lifetime ν′ of the call
+        -- the array is borrowed as a shared slice, for a lifetime ν′ of the call
         fsplit ! $ drop ! $ lft-new ! tt (λ ν′. move ! (1 ∷ []) $
         use1 W (later (some (λ (δ′ : GName). ‵ (Wire ν′ δ′ l₆ (ws .0) (length (ws .0))) ⊛ ‵ (flent (ν′ ∷ []) (Parts 𝓤 H A W 3072 l₆ (ws .0)))))) (shared 𝓤 H A W 3072 l₆ (named 0) (ν′ ∷ []) (ws .0) (subst (Room u8) (sym long) roomy-zeros)) $ await ! tt $ pick ! (λ δ′. split ! $
         rewrite ! 0 (λ (k : ℕ). ‵ (Wire ν′ δ′ l₆ (ws .0) k)) (long ∙ zeros-long) refl $
@@ -298,7 +298,7 @@ module _ {M : Type 1} (𝓤 : URA M) (H : Heap 𝓤) (A : Atoms 𝓤) (W : Given
         keep ! (4 ∷ 0 ∷ 7 ∷ 2 ∷ 1 ∷ []) $ by ! (exits r z (ts .1 .1 .1 .1 .0) (subst (λ (d : Answer (List ℕ)). Wrote (x′ .now) d r (ts .1 .1 .1 .1 .0)) (written-from c hs (x .now) (ws .0) n (length (x′ .now)) few e) f) l)))))))))))))))))))))))))))))))))))))
 
 module _ {M : Type 1} (𝓤 : URA M) (H : Heap 𝓤) (A : Atoms 𝓤) (W : Given 𝓤 H A) (mem : Memory → SProp 𝓤) (run : Routine → Fun 𝓤) where
-  list-walks : (C : Calls 𝓤 H) (Λ : Loops 𝓤 H) → FmC 𝓤 H (W .laws) C → Triple 𝓤 (C #error-list·records-used) (Used 𝓤 H A mem run) → Triple 𝓤 (C #error-list·put-records) (Put 𝓤 H A mem run) → Triple 𝓤 (C #report-write·write-reports) (Body 𝓤 H A mem run)
+  list-walks : (C : Calls 𝓤 H) (Λ : Loops 𝓤 H) → FmC 𝓤 H (W .laws) C → Triple 𝓤 (C #error-list·entries-used) (Used 𝓤 H A mem run) → Triple 𝓤 (C #error-list·put-entries) (Put 𝓤 H A mem run) → Triple 𝓤 (C #report·write-reports) (Body 𝓤 H A mem run)
       → Walks 𝓤 H A this.ended stayed (WpFn 𝓤 H C Λ code.function) (this.clauses 𝓤 H A mem run)
   list-walks C Λ fm known-used known-put known-body = walked 𝓤 H A this.ended stayed (this.clauses 𝓤 H A mem run) (WpFn 𝓤 H C Λ code.function)
       (λ κs. (uint-vals w32, (mach, (slice-vals, (slice-vals, tt)))))
@@ -309,7 +309,7 @@ module _ {M : Type 1} (𝓤 : URA M) (H : Heap 𝓤) (A : Atoms 𝓤) (W : Given
   goes-all = (goes-none 𝓤 H A W 2 (λ _. u32) yes (λ κs x f. refl), (goes-none 𝓤 H A W 2 (λ _. Heads) yes (λ κs x f. refl), (goes-none-slice 𝓤 H A W 2 (0 ∷ []) tt (plain (λ _. T.the-row)) yes, (goes-gave-slice 𝓤 H A W 2 1 tt (plain (λ _. u8)), tt))))
 
 list-meets : {M : Type 1} (𝓤 : URA M) (H : Heap 𝓤) (A : Atoms 𝓤) (W : Given 𝓤 H A) (mem : Memory → SProp 𝓤) (run : Routine → Fun 𝓤) (𝓣 : Tables 𝓤 H)
-    → Triple 𝓤 (𝓣 .C #error-list·records-used) (Used 𝓤 H A mem run) → Triple 𝓤 (𝓣 .C #error-list·put-records) (Put 𝓤 H A mem run) → Triple 𝓤 (𝓣 .C #report-write·write-reports) (Body 𝓤 H A mem run)
+    → Triple 𝓤 (𝓣 .C #error-list·entries-used) (Used 𝓤 H A mem run) → Triple 𝓤 (𝓣 .C #error-list·put-entries) (Put 𝓤 H A mem run) → Triple 𝓤 (𝓣 .C #report·write-reports) (Body 𝓤 H A mem run)
     → Meets 𝓤 H A this.signature (WpFn 𝓤 H (𝓣 .C) (𝓣 .Λ) code.function) (this.spec 𝓤 H A mem run)
 list-meets 𝓤 H A W mem run 𝓣 known-used known-put known-body = walk-meets 𝓤 H A this.ended stayed W (goes-all 𝓤 H A W mem run) (this.clauses 𝓤 H A mem run) (WpFn 𝓤 H (𝓣 .C) (𝓣 .Λ) code.function) (WpFn-mono 𝓤 H (W .laws) 𝓣 code.function)
     (list-walks 𝓤 H A W mem run (𝓣 .C) (𝓣 .Λ) (fmOf 𝓤 H (W .laws) 𝓣) known-used known-put known-body)
@@ -320,6 +320,6 @@ write-error-list-spec 𝓤 H 𝓜 𝓖 𝓡 =
     entered 𝓤 H (tripleOf 𝓤 H (𝓖 .A) this.signature (this.spec 𝓤 H (𝓖 .A) (𝓜 .mem) (𝓡 .run)))
     (tables 𝓤 H 𝓜 𝓡 code.env .C) (tables 𝓤 H 𝓜 𝓡 code.env .Λ) #error-list·write-error-list code.function (code.unfolded 𝓤 H 𝓜 𝓡)
     (list-meets 𝓤 H (𝓖 .A) (givenOf 𝓤 H 𝓜 𝓖) (𝓜 .mem) (𝓡 .run) (tablesOf 𝓤 H 𝓜 (tables 𝓤 H 𝓜 𝓡 code.env))
-    (cited 𝓤 H (Used 𝓤 H (𝓖 .A) (𝓜 .mem) (𝓡 .run)) 𝓜 𝓡 code.env #error-list·records-used used-def.routine code.calls-error-list·records-used (used-thm.met 𝓤 H 𝓜 𝓖 𝓡))
-    (cited 𝓤 H (Put 𝓤 H (𝓖 .A) (𝓜 .mem) (𝓡 .run)) 𝓜 𝓡 code.env #error-list·put-records put-def.routine code.calls-error-list·put-records (put-thm.met 𝓤 H 𝓜 𝓖 𝓡))
-    (cited 𝓤 H (Body 𝓤 H (𝓖 .A) (𝓜 .mem) (𝓡 .run)) 𝓜 𝓡 code.env #report-write·write-reports body-def.routine code.calls-report-write·write-reports (body-thm.met 𝓤 H 𝓜 𝓖 𝓡)))
+    (cited 𝓤 H (Used 𝓤 H (𝓖 .A) (𝓜 .mem) (𝓡 .run)) 𝓜 𝓡 code.env #error-list·entries-used used-def.routine code.calls-error-list·entries-used (used-thm.met 𝓤 H 𝓜 𝓖 𝓡))
+    (cited 𝓤 H (Put 𝓤 H (𝓖 .A) (𝓜 .mem) (𝓡 .run)) 𝓜 𝓡 code.env #error-list·put-entries put-def.routine code.calls-error-list·put-entries (put-thm.met 𝓤 H 𝓜 𝓖 𝓡))
+    (cited 𝓤 H (Body 𝓤 H (𝓖 .A) (𝓜 .mem) (𝓡 .run)) 𝓜 𝓡 code.env #report·write-reports body-def.routine code.calls-report·write-reports (body-thm.met 𝓤 H 𝓜 𝓖 𝓡)))

@@ -1,4 +1,4 @@
--- `print::mark_from` is safe and ends. Each turn leaves fewer bytes.
+-- `print::mark_from` is safe and ends. Each step leaves fewer bytes.
 use Prim.Native.Nat.{_-_}
 use borrow.Author.Needs.{needs}
 use lib.ListN.{length}

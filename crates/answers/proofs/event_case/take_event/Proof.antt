@@ -20,8 +20,8 @@ slice-aggregate-apply c = simp length-take (omega arith)
 apply-requires : tie.Need-apply-requires
 apply-requires c κs = search needs
 
-say-verdict-requires : tie.Need-say-verdict-requires
-say-verdict-requires c κs = search needs
+print-verdict-requires : tie.Need-print-verdict-requires
+print-verdict-requires c κs = search needs
 
 same-length : tie.Need-same-length
 same-length c = search needs
@@ -38,6 +38,6 @@ take-event-spec =
     slice-relend-prefix-apply
     slice-aggregate-apply
     apply-requires
-    say-verdict-requires
+    print-verdict-requires
     same-length
     returns-2)

@@ -1,12 +1,12 @@
 -- `binding::bind_body::bind` meets its contract: both bodies, then 16, 8, and the server.
 use Rattle.base.specs.Answer.{given, pick}
-use Rattle.binding.specs.Bindings.{boundTo, must}
+use Rattle.binding.specs.Bindings.{boundTo, require}
 use Rattle.device.proofs.AcceptedDevice.{versions-read}
 use Rattle.device.specs.Answers.{deviceOf}
 use Rattle.device.specs.declared.body.DeviceAnswer.{DeviceAnswer}
 use Rattle.layout.specs.Answers.{answerOfLayout}
 use Rattle.layout.specs.declared.body.LayoutAnswer.{LayoutAnswer}
-use Rattle.xdr.proofs.Steps.{came, handed-answer-from}
+use Rattle.xdr.proofs.Steps.{by-case, refusal-up-from}
 use borrow.Author.Needs.{needs}
 use borrow.Author.Tests.{le-leb, le-ltb, lt-leb, lt-ltb}
 use denote.Ref.{now}
@@ -24,12 +24,12 @@ enum-known-a c = search needs
 enum-told : tie.Need-enum-told
 enum-told c = search needs
 
-why-layout-requires : tie.Need-why-layout-requires
-why-layout-requires c κs = search needs
+fault-of-layout-requires : tie.Need-fault-of-layout-requires
+fault-of-layout-requires c κs = search needs
 
 returns : tie.Need-returns
 unfolding boundTo given
-returns c = rw (handed-answer-from (λ (x : LayoutAnswer). answerOfLayout x []) (λ (x : LayoutAnswer). answerOfLayout x (c .before .before .before .read-layout .result .starts)) (c .before .before .before .read-layout .ensures .0) (c .before .enum-told .given .1) (c .why-layout .ensures) refl refl)
+returns c = rw (refusal-up-from (λ (x : LayoutAnswer). answerOfLayout x []) (λ (x : LayoutAnswer). answerOfLayout x (c .before .before .before .read-layout .result .starts)) (c .before .before .before .read-layout .ensures .0) (c .before .enum-told .given .1) (c .fault-of-layout .ensures) refl refl)
 
 read-device-requires : tie.Need-read-device-requires
 read-device-requires c κs = search needs
@@ -40,46 +40,46 @@ enum-known-b c = search needs
 enum-told-2 : tie.Need-enum-told-2
 enum-told-2 c = search needs
 
-why-device-requires : tie.Need-why-device-requires
-why-device-requires c κs = search needs
+fault-of-device-requires : tie.Need-fault-of-device-requires
+fault-of-device-requires c κs = search needs
 
 returns-2 : tie.Need-returns-2
 unfolding boundTo given
 returns-2 c =
     let after-a = c .before .before .before .before .before in
     rw (
-      came (λ (x : LayoutAnswer). answerOfLayout x (after-a .before .before .read-layout .result .starts))
+      by-case (λ (x : LayoutAnswer). answerOfLayout x (after-a .before .before .read-layout .result .starts))
           (after-a .before .before .read-layout .ensures .0) (after-a .a .given .1),
-      handed-answer-from (λ (x : DeviceAnswer). deviceOf x [] [])
+      refusal-up-from (λ (x : DeviceAnswer). deviceOf x [] [])
           (λ (x : DeviceAnswer). deviceOf x (c .before .before .before .read-device .result .addresses)
           (c .before .before .before .read-device .result .versions))
           (c .before .before .before .read-device .ensures .0) (c .before .enum-told2 .given .1)
-          (c .why-device .ensures) refl refl,
+          (c .fault-of-device .ensures) refl refl,
     )
 
 returns-3 : tie.Need-returns-3
-unfolding boundTo given must pick
+unfolding boundTo given require pick
 returns-3 c =
     let after-b = c .before .before .before .before in
     let after-a = after-b .before .before .before .before in
     rw (
-      came (λ (x : LayoutAnswer). answerOfLayout x (after-a .before .before .read-layout .result .starts))
+      by-case (λ (x : LayoutAnswer). answerOfLayout x (after-a .before .before .read-layout .result .starts))
           (after-a .before .before .read-layout .ensures .0) (after-a .a .given .1),
-      came (λ (x : DeviceAnswer). deviceOf x (after-b .before .before .read-device .result .addresses)
+      by-case (λ (x : DeviceAnswer). deviceOf x (after-b .before .before .read-device .result .addresses)
           (after-b .before .before .read-device .result .versions)) (after-b .before .before .read-device .ensures .0)
           (after-b .b .given .1),
       le-ltb _ _ (c .if1 .taken),
     )
 
 returns-4 : tie.Need-returns-4
-unfolding boundTo given must pick
+unfolding boundTo given require pick
 returns-4 c =
     let after-b = c .before .before .before .before .before .before .before in
     let after-a = after-b .before .before .before .before in
     rw (
-      came (λ (x : LayoutAnswer). answerOfLayout x (after-a .before .before .read-layout .result .starts))
+      by-case (λ (x : LayoutAnswer). answerOfLayout x (after-a .before .before .read-layout .result .starts))
           (after-a .before .before .read-layout .ensures .0) (after-a .a .given .1),
-      came (λ (x : DeviceAnswer). deviceOf x (after-b .before .before .read-device .result .addresses)
+      by-case (λ (x : DeviceAnswer). deviceOf x (after-b .before .before .read-device .result .addresses)
           (after-b .before .before .read-device .result .versions)) (after-b .before .before .read-device .ensures .0)
           (after-b .b .given .1),
       lt-ltb _ _ (c .before .before .before .if1 .left),
@@ -87,15 +87,15 @@ returns-4 c =
     )
 
 returns-5 : tie.Need-returns-5
-unfolding boundTo given must pick
+unfolding boundTo given require pick
 returns-5 c =
     let after-if1 = c .before .before .before .before in
     let after-b = after-if1 .before .before .before .before in
     let after-a = after-b .before .before .before .before in
     rw (
-      came (λ (x : LayoutAnswer). answerOfLayout x (after-a .before .before .read-layout .result .starts))
+      by-case (λ (x : LayoutAnswer). answerOfLayout x (after-a .before .before .read-layout .result .starts))
           (after-a .before .before .read-layout .ensures .0) (after-a .a .given .1),
-      came (λ (x : DeviceAnswer). deviceOf x (after-b .before .before .read-device .result .addresses)
+      by-case (λ (x : DeviceAnswer). deviceOf x (after-b .before .before .read-device .result .addresses)
           (after-b .before .before .read-device .result .versions)) (after-b .before .before .read-device .ensures .0)
           (after-b .b .given .1),
       lt-ltb _ _ (after-if1 .if1 .left),
@@ -115,21 +115,21 @@ bind-server-requires c κs =
     let after-read-device = after-b .before .before in
     let start = after-read-device .before .before .before .before .before .before .before in
     let v = versions-read (now (start .args .device)) _
-    (came (λ (x : DeviceAnswer). deviceOf x (after-read-device .read-device .result .addresses)
+    (by-case (λ (x : DeviceAnswer). deviceOf x (after-read-device .read-device .result .addresses)
     (after-read-device .read-device .result .versions)) (after-read-device .read-device .ensures .0)
     (after-b .b .given .1)) in
     v .high
 
 returns-6 : tie.Need-returns-6
-unfolding boundTo given must pick
+unfolding boundTo given require pick
 returns-6 c =
     let after-if2 = c .before .before .before .before .before in
     let after-b = after-if2 .before .before .before .before .before .before .before in
     let after-a = after-b .before .before .before .before in
     rw (
-      came (λ (x : LayoutAnswer). answerOfLayout x (after-a .before .before .read-layout .result .starts))
+      by-case (λ (x : LayoutAnswer). answerOfLayout x (after-a .before .before .read-layout .result .starts))
           (after-a .before .before .read-layout .ensures .0) (after-a .a .given .1),
-      came (λ (x : DeviceAnswer). deviceOf x (after-b .before .before .read-device .result .addresses)
+      by-case (λ (x : DeviceAnswer). deviceOf x (after-b .before .before .read-device .result .addresses)
           (after-b .before .before .read-device .result .versions)) (after-b .before .before .read-device .ensures .0)
           (after-b .b .given .1),
       lt-ltb _ _ (after-if2 .before .before .before .if1 .left),
@@ -145,12 +145,12 @@ bind-spec =
     read-layout-requires
     enum-known-a
     enum-told
-    why-layout-requires
+    fault-of-layout-requires
     returns
     read-device-requires
     enum-known-b
     enum-told-2
-    why-device-requires
+    fault-of-device-requires
     returns-2
     returns-3
     returns-4

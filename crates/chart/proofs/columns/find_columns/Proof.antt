@@ -1,4 +1,4 @@
--- `chart::columns::find_columns` is safe and ends. The array keeps its length, and each turn leaves fewer places.
+-- `chart::columns::find_columns` is safe and ends. The array keeps its length, and each step leaves fewer places.
 use Prim.Native.Nat.{_-_}
 use borrow.Author.Needs.{needs}
 use lib.ListN.{length}
@@ -30,8 +30,8 @@ mul-items c = search needs
 array-set-from-items : tie.Need-array-set-from-items Inv-loop μ-loop
 array-set-from-items c = search needs
 
-behind-requires : tie.Need-behind-requires Inv-loop μ-loop
-behind-requires c κs = search needs
+next-offset-requires : tie.Need-next-offset-requires Inv-loop μ-loop
+next-offset-requires c κs = search needs
 
 add-i : tie.Need-add-i Inv-loop μ-loop
 add-i c = search needs
@@ -57,7 +57,7 @@ find-columns-spec =
     column-at-requires
     mul-items
     array-set-from-items
-    behind-requires
+    next-offset-requires
     add-i
     loop-less
     loop-again

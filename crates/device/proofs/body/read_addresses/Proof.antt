@@ -1,13 +1,13 @@
 -- `device::body::read_addresses` meets its contract. The loop's invariant: the items left, put behind those in the places now, are what all of
 -- them put into blank places were at the start. The measure is how many items are left. `k` is the place at the loop.
 use Prim.Native.Nat.{_-_, _≤_}
-use Rattle.xdr.proofs.PlaceLaws.{list-begun, list-refused, placed, placed-next, placed-none, placed-refused}
-use Rattle.netaddr.specs.Addresses.{addressAt, blankAddress}
-use Rattle.netaddr.specs.Answers.{resOfAddress}
+use Rattle.xdr.proofs.ListedLaws.{list-begun, list-refused, placed, listed-next, listed-none, listed-refused}
+use Rattle.device.specs.Addresses.{addressAt, blankAddress}
+use Rattle.device.specs.AddressAnswers.{parsedOfAddress}
 use Rattle.xdr.proofs.Accepted.{count-read}
-use Rattle.xdr.proofs.Steps.{came, handed}
-use Rattle.xdr.specs.Answers.{resOfList, resOfU32}
-use Rattle.xdr.specs.Res.{manyAt}
+use Rattle.xdr.proofs.Steps.{by-case, fault-up}
+use Rattle.xdr.specs.Answers.{parsedOfList, parsedOfU32}
+use Rattle.xdr.specs.Parsed.{manyAt}
 use borrow.Author.Needs.{needs}
 use lib.ListN.{replicate}
 use mathlib.Core.Path.{_≡_, refl, sym, ap, _∙_}
@@ -16,13 +16,13 @@ use Rattle.device.proofs.body.read_addresses.Statement.{statement}
 use Rattle.device.proofs.body.read_addresses.Tie as tie
 
 abbrev Inv-loop : tie.InvT-loop
-Inv-loop s places₀ n d₀ i₀ places d i =
+Inv-loop s places₀ n d₀ i₀ entries d i =
     (i ≤ n)
     × (n ≤ 8)
-    × (placed n places₀ 0 (manyAt addressAt n s (d₀ .at)) ≡ placed n places i (manyAt addressAt (n - i) s (d .at)))
+    × (placed n places₀ 0 (manyAt addressAt n s (d₀ .at)) ≡ placed n entries i (manyAt addressAt (n - i) s (d .at)))
 
 abbrev μ-loop : tie.MeasureT-loop
-μ-loop s places₀ n d₀ i₀ places d i = n - i
+μ-loop s places₀ n d₀ i₀ entries d i = n - i
 
 read-count-requires : tie.Need-read-count-requires Inv-loop μ-loop
 read-count-requires c κs = search needs
@@ -36,13 +36,13 @@ enum-told c = search needs
 returns : tie.Need-returns Inv-loop μ-loop
 returns c =
     let g = c .enum-told .given .1 in
-    ap (resOfList (replicate 8 blankAddress)) g ∙ sym (list-refused addressAt 1 8 blankAddress _ _ _ (came resOfU32 (c .before .before .read-count .ensures) g))
+    ap (parsedOfList (replicate 8 blankAddress)) g ∙ sym (list-refused addressAt 1 8 blankAddress _ _ _ (by-case parsedOfU32 (c .before .before .read-count .ensures) g))
 
 loop-holds : tie.Need-loop-holds Inv-loop μ-loop
 loop-holds c =
     let n = c .before .count .given .0 .0 in
     let e : n - 0 ≡ n = omega arith in
-    let h = came resOfU32 (c .before .before .before .read-count .ensures) (c .before .count .given .1) in
+    let h = by-case parsedOfU32 (c .before .before .before .read-count .ensures) (c .before .count .given .1) in
     (omega arith, count-read 1 8 _ _ _ _ h .high, rw e)
 
 read-address-requires : tie.Need-read-address-requires Inv-loop μ-loop
@@ -54,25 +54,25 @@ enum-known-r c = search needs
 enum-told-2 : tie.Need-enum-told-2 Inv-loop μ-loop
 enum-told-2 c = search needs
 
-why-address-requires : tie.Need-why-address-requires Inv-loop μ-loop
-why-address-requires c κs = search needs
+fault-of-address-requires : tie.Need-fault-of-address-requires Inv-loop μ-loop
+fault-of-address-requires c κs = search needs
 
 returns-2 : tie.Need-returns-2 Inv-loop μ-loop
 returns-2 c =
     let k = c .before .before .before .before .before in
     let l = k .loop in
-    let h = came resOfU32 (k .before .before .before .before .read-count .ensures) (k .before .before .count .given .1) in
-    let g = handed resOfAddress (c .before .before .before .read-address .ensures) (c .before .enum-told2 .given .1) (c .why-address .ensures) refl in
-    sym (list-begun addressAt 1 8 blankAddress _ _ _ _ h ∙ l .inv .2 ∙ placed-refused addressAt _ (l .places) (l .i) _ _ (l .d .at) _ (omega arith) g)
+    let h = by-case parsedOfU32 (k .before .before .before .before .read-count .ensures) (k .before .before .count .given .1) in
+    let g = fault-up parsedOfAddress (c .before .before .before .read-address .ensures) (c .before .enum-told2 .given .1) (c .fault-of-address .ensures) refl in
+    sym (list-begun addressAt 1 8 blankAddress _ _ _ _ h ∙ l .inv .2 ∙ listed-refused addressAt _ (l .entries) (l .i) _ _ (l .d .at) _ (omega arith) g)
 
-cast-places : tie.Need-cast-places Inv-loop μ-loop
-cast-places c = search needs
+cast-entries : tie.Need-cast-entries Inv-loop μ-loop
+cast-entries c = search needs
 
-mul-places : tie.Need-mul-places Inv-loop μ-loop
-mul-places c = search needs
+mul-entries : tie.Need-mul-entries Inv-loop μ-loop
+mul-entries c = search needs
 
-array-set-from-places : tie.Need-array-set-from-places Inv-loop μ-loop
-array-set-from-places c = search needs
+array-set-from-entries : tie.Need-array-set-from-entries Inv-loop μ-loop
+array-set-from-entries c = search needs
 
 add-i : tie.Need-add-i Inv-loop μ-loop
 add-i c = search needs
@@ -83,15 +83,15 @@ loop-less c = search needs
 loop-again : tie.Need-loop-again Inv-loop μ-loop
 loop-again c =
     let l = c .before .before .before .before .before .loop in
-    let g = came resOfAddress (c .before .before .before .read-address .ensures) (c .before .r .given .1) in
-    (omega arith, l .inv .1, l .inv .2 ∙ placed-next addressAt _ (l .places) (l .i) _ _ (l .d .at) _ _ (omega arith) g)
+    let g = by-case parsedOfAddress (c .before .before .before .read-address .ensures) (c .before .r .given .1) in
+    (omega arith, l .inv .1, l .inv .2 ∙ listed-next addressAt _ (l .entries) (l .i) _ _ (l .d .at) _ _ (omega arith) g)
 
 returns-3 : tie.Need-returns-3 Inv-loop μ-loop
 returns-3 c =
     let k = c .before in
     let l = k .loop in
-    let h = came resOfU32 (k .before .before .before .before .read-count .ensures) (k .before .before .count .given .1) in
-    sym (list-begun addressAt 1 8 blankAddress _ _ _ _ h ∙ l .inv .2 ∙ placed-none addressAt _ (l .places) (l .i) _ _ (l .d .at) (omega arith))
+    let h = by-case parsedOfU32 (k .before .before .before .before .read-count .ensures) (k .before .before .count .given .1) in
+    sym (list-begun addressAt 1 8 blankAddress _ _ _ _ h ∙ l .inv .2 ∙ listed-none addressAt _ (l .entries) (l .i) _ _ (l .d .at) (omega arith))
 
 pub read-addresses-spec : {M : Type 1} → statement M
 read-addresses-spec =
@@ -107,11 +107,11 @@ read-addresses-spec =
     read-address-requires
     enum-known-r
     enum-told-2
-    why-address-requires
+    fault-of-address-requires
     returns-2
-    cast-places
-    mul-places
-    array-set-from-places
+    cast-entries
+    mul-entries
+    array-set-from-entries
     add-i
     loop-less
     loop-again

@@ -1,4 +1,4 @@
--- `drawing::picture::lower_end` is safe and ends. Each turn leaves fewer mirrors.
+-- `drawing::picture::lower_end` is safe and ends. Each step leaves fewer mirrors.
 use Prim.Native.Nat.{_-_}
 use borrow.Author.Needs.{needs}
 use Rattle.drawing.proofs.picture.lower_end.Statement.{statement}
@@ -13,17 +13,17 @@ abbrev μ-loop : tie.MeasureT-loop
 loop-holds : tie.Need-loop-holds Inv-loop μ-loop
 loop-holds c = search needs
 
-cast-beyond : tie.Need-cast-beyond Inv-loop μ-loop
-cast-beyond c = search needs
+cast-add-capped : tie.Need-cast-add-capped Inv-loop μ-loop
+cast-add-capped c = search needs
 
-mul-beyond : tie.Need-mul-beyond Inv-loop μ-loop
-mul-beyond c = search needs
+mul-add-capped : tie.Need-mul-add-capped Inv-loop μ-loop
+mul-add-capped c = search needs
 
-beyond-requires : tie.Need-beyond-requires Inv-loop μ-loop
-beyond-requires c κs = search needs
+add-capped-requires : tie.Need-add-capped-requires Inv-loop μ-loop
+add-capped-requires c κs = search needs
 
-beyond-requires-2 : tie.Need-beyond-requires-2 Inv-loop μ-loop
-beyond-requires-2 c κs = search needs
+add-capped-requires-2 : tie.Need-add-capped-requires-2 Inv-loop μ-loop
+add-capped-requires-2 c κs = search needs
 
 add-m : tie.Need-add-m Inv-loop μ-loop
 add-m c = search needs
@@ -44,10 +44,10 @@ lower-end-spec =
     Inv-loop
     μ-loop
     loop-holds
-    cast-beyond
-    mul-beyond
-    beyond-requires
-    beyond-requires-2
+    cast-add-capped
+    mul-add-capped
+    add-capped-requires
+    add-capped-requires-2
     add-m
     loop-less
     loop-again

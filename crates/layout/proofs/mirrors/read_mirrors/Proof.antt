@@ -3,11 +3,11 @@
 use Prim.Native.Nat.{ℕ, _+_, _-_, _*_, _≤_}
 use Rattle.layout.proofs.StartLaws.{mirrors-next, mirrors-none, mirrors-refused, row-read, row-refused}
 use Rattle.layout.specs.Layouts.{mirrorAt, mirrorsAt}
-use Rattle.layout.specs.Starts.{resOfStarts, withMirrors}
+use Rattle.layout.specs.Starts.{parsedOfStarts, withMirrors}
 use Rattle.server.specs.Servers.{serverAt}
 use Rattle.xdr.specs.declared.end.ReadEnd.{ReadEnd}
-use Rattle.xdr.proofs.Steps.{came}
-use Rattle.xdr.specs.Res.{Res, manyAt}
+use Rattle.xdr.proofs.Steps.{by-case}
+use Rattle.xdr.specs.Parsed.{Parsed, manyAt}
 use borrow.Author.Needs.{needs}
 use denote.Ref.{now}
 use mathlib.Core.List.{List}
@@ -36,10 +36,10 @@ unfolding mirrorsAt
 returns c =
     let after-read-servers = c .before .before in
     let start = after-read-servers .before .before .before in
-    let says : ReadEnd → Res (List ℕ) = λ r. resOfStarts r (after-read-servers .read-servers .last .1 .1 .1 .1 .0) in
+    let says : ReadEnd → Parsed (List ℕ) = λ r. parsedOfStarts r (after-read-servers .read-servers .last .1 .1 .1 .1 .0) in
     ap says (c .enum-told .given .1)
     ∙ sym (row-refused 0 (manyAt serverAt (start .args .servers) (now (start .args .s)) (start .args .c .at)) _
-    (now (start .args .starts)) _ (came says (after-read-servers .read-servers .ensures) (c .enum-told .given .1)))
+    (now (start .args .starts)) _ (by-case says (after-read-servers .read-servers .ensures) (c .enum-told .given .1)))
 
 loop-holds : tie.Need-loop-holds Inv-loop μ-loop
 loop-holds c = (omega arith, refl)
@@ -68,13 +68,13 @@ returns-2 c =
     let s = now (start .args .s) in
     let n = start .args .servers in
     let l = at-loop .loop in
-    let says : ReadEnd → Res (List ℕ) = λ r. resOfStarts r (after-read-mirror .read-mirror .last .1 .1 .1 .1 .0) in
+    let says : ReadEnd → Parsed (List ℕ) = λ r. parsedOfStarts r (after-read-mirror .read-mirror .last .1 .1 .1 .1 .0) in
     let first = row-read 0 (manyAt serverAt n s (start .args .c .at))
     (λ p1. manyAt (mirrorAt n) (start .args .mirrors - 1) s p1) (now (start .args .starts)) _ _
-    (came (λ (r : ReadEnd). resOfStarts r (after-read-servers .read-servers .last .1 .1 .1 .1 .0))
+    (by-case (λ (r : ReadEnd). parsedOfStarts r (after-read-servers .read-servers .last .1 .1 .1 .1 .0))
     (after-read-servers .read-servers .ensures) (at-loop .before .before .f .given .1)) in
     let here = mirrors-refused n s (start .args .mirrors - l .m) (l .m * 16) (l .d .at) (l .starts) _ (omega arith)
-    (came says (after-read-mirror .read-mirror .ensures) (c .enum-told2 .given .1)) in
+    (by-case says (after-read-mirror .read-mirror .ensures) (c .enum-told2 .given .1)) in
     ap says (c .enum-told2 .given .1) ∙ sym (first ∙ l .inv .1 ∙ here)
 
 add-m : tie.Need-add-m Inv-loop μ-loop
@@ -91,9 +91,9 @@ loop-again c =
     let s = now (start .args .s) in
     let n = start .args .servers in
     let l = at-loop .loop in
-    let says : ReadEnd → Res (List ℕ) = λ r. resOfStarts r (after-read-mirror .read-mirror .last .1 .1 .1 .1 .0) in
+    let says : ReadEnd → Parsed (List ℕ) = λ r. parsedOfStarts r (after-read-mirror .read-mirror .last .1 .1 .1 .1 .0) in
     let here = mirrors-next n s (start .args .mirrors - l .m) (l .m * 16) (l .d .at) (l .starts) _ _ (omega arith)
-    (came says (after-read-mirror .read-mirror .ensures) (c .before .r .given .1)) in
+    (by-case says (after-read-mirror .read-mirror .ensures) (c .before .r .given .1)) in
     let e : (l .m + 1) * 16 ≡ l .m * 16 + 16 = omega arith in
     let f : start .args .mirrors - (l .m + 1) ≡ start .args .mirrors - l .m - 1 = omega arith in
     (omega arith, rw (e, f) (l .inv .1 ∙ here))
@@ -108,7 +108,7 @@ returns-3 c =
     let l = c .before .loop in
     let first = row-read 0 (manyAt serverAt n s (start .args .c .at))
     (λ p1. manyAt (mirrorAt n) (start .args .mirrors - 1) s p1) (now (start .args .starts)) _ _
-    (came (λ (r : ReadEnd). resOfStarts r (after-read-servers .read-servers .last .1 .1 .1 .1 .0))
+    (by-case (λ (r : ReadEnd). parsedOfStarts r (after-read-servers .read-servers .last .1 .1 .1 .1 .0))
     (after-read-servers .read-servers .ensures) (c .before .before .before .f .given .1)) in
     sym (first ∙ l .inv .1
     ∙ mirrors-none n s (start .args .mirrors - l .m) (l .m * 16) (l .d .at) (l .starts) (omega arith))

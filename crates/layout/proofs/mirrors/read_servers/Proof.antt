@@ -4,10 +4,10 @@ use Prim.Native.Nat.{_+_, _≤_}
 use Rattle.layout.proofs.StartLaws.{servers-next, servers-none, servers-refused}
 use Rattle.layout.specs.Starts.{withServers}
 use Rattle.server.proofs.ServerLaws.{server-read}
-use Rattle.server.specs.Answers.{resOfServer}
+use Rattle.server.specs.Answers.{parsedOfServer}
 use Rattle.server.specs.Servers.{serverAt}
-use Rattle.xdr.proofs.Steps.{came, handed}
-use Rattle.xdr.specs.Res.{manyAt}
+use Rattle.xdr.proofs.Steps.{by-case, fault-up}
+use Rattle.xdr.specs.Parsed.{manyAt}
 use borrow.Author.Needs.{needs}
 use denote.Ref.{now}
 use lib.ListN.{length}
@@ -34,8 +34,8 @@ enum-known-r c = search needs
 enum-told : tie.Need-enum-told Inv-loop μ-loop
 enum-told c = search needs
 
-why-server-requires : tie.Need-why-server-requires Inv-loop μ-loop
-why-server-requires c κs = search needs
+fault-of-server-requires : tie.Need-fault-of-server-requires Inv-loop μ-loop
+fault-of-server-requires c κs = search needs
 
 returns : tie.Need-returns Inv-loop μ-loop
 returns c =
@@ -44,8 +44,8 @@ returns c =
     rw (
       l .inv .2,
       servers-refused (l .left) (l .k) (now (at-loop .before .before .args .s)) (l .d .at) (l .starts) _ (omega arith)
-          (handed resOfServer (c .before .before .before .read-server .ensures) (c .before .enum-told .given .1)
-          (c .why-server .ensures) refl),
+          (fault-up parsedOfServer (c .before .before .before .read-server .ensures) (c .before .enum-told .given .1)
+          (c .fault-of-server .ensures) refl),
     )
 
 cast-starts : tie.Need-cast-starts Inv-loop μ-loop
@@ -76,7 +76,7 @@ loop-again : tie.Need-loop-again Inv-loop μ-loop
 loop-again c =
     let at-loop = c .before .before .before .before .before in
     let l = at-loop .loop in
-    let e = came resOfServer (c .before .before .before .read-server .ensures) (c .before .r .given .1) in
+    let e = by-case parsedOfServer (c .before .before .before .read-server .ensures) (c .before .r .given .1) in
     let v = server-read (now (at-loop .before .before .args .s)) (l .d .at) _ _ e in (
       omega (arith, l .inv .0),
       v .within,
@@ -100,7 +100,7 @@ read-servers-spec =
     read-server-requires
     enum-known-r
     enum-told
-    why-server-requires
+    fault-of-server-requires
     returns
     cast-starts
     mul-starts

@@ -1,9 +1,9 @@
 -- `layout4::frame::read_range` meets its contract, item by item.
-use Rattle.base.specs.Ranges.{answerOfLast}
+use Rattle.base.specs.Ranges.{answerOfRangeEnd}
 use Rattle.layout4.specs.Layout4s.{rangeAt}
-use Rattle.xdr.proofs.Steps.{came, handed, handed-answer}
-use Rattle.xdr.specs.Answers.{resOfU64}
-use Rattle.xdr.specs.Res.{asItem, then}
+use Rattle.xdr.proofs.Steps.{by-case, fault-up, refusal-up}
+use Rattle.xdr.specs.Answers.{parsedOfU64}
+use Rattle.xdr.specs.Parsed.{asItem, then}
 use borrow.Author.Needs.{needs}
 use mathlib.Core.Path.{refl}
 use Rattle.layout4.proofs.frame.read_range.Statement.{statement}
@@ -18,12 +18,12 @@ enum-known-o c = search needs
 enum-told : tie.Need-enum-told
 enum-told c = search needs
 
-why-u64-requires : tie.Need-why-u64-requires
-why-u64-requires c κs = search needs
+fault-of-u64-requires : tie.Need-fault-of-u64-requires
+fault-of-u64-requires c κs = search needs
 
 returns : tie.Need-returns
 unfolding rangeAt then asItem
-returns c = rw (handed resOfU64 (c .before .before .before .read-u64 .ensures) (c .before .enum-told .given .1) (c .why-u64 .ensures) refl)
+returns c = rw (fault-up parsedOfU64 (c .before .before .before .read-u64 .ensures) (c .before .enum-told .given .1) (c .fault-of-u64 .ensures) refl)
 
 read-u64-requires-2 : tie.Need-read-u64-requires-2
 read-u64-requires-2 c κs = search needs
@@ -34,17 +34,17 @@ enum-known-n c = search needs
 enum-told-2 : tie.Need-enum-told-2
 enum-told-2 c = search needs
 
-why-u64-requires-2 : tie.Need-why-u64-requires-2
-why-u64-requires-2 c κs = search needs
+fault-of-u64-requires-2 : tie.Need-fault-of-u64-requires-2
+fault-of-u64-requires-2 c κs = search needs
 
 returns-2 : tie.Need-returns-2
 unfolding rangeAt then asItem
 returns-2 c =
     let after-o = c .before .before .before .before .before in
     rw (
-      came resOfU64 (after-o .before .before .read-u64 .ensures) (after-o .o .given .1),
-      handed resOfU64 (c .before .before .before .read-u642 .ensures) (c .before .enum-told2 .given .1)
-          (c .why-u642 .ensures) refl,
+      by-case parsedOfU64 (after-o .before .before .read-u64 .ensures) (after-o .o .given .1),
+      fault-up parsedOfU64 (c .before .before .before .read-u642 .ensures) (c .before .enum-told2 .given .1)
+          (c .fault-of-u642 .ensures) refl,
     )
 
 range-last-requires : tie.Need-range-last-requires
@@ -56,8 +56,8 @@ enum-known-e c = search needs
 enum-told-3 : tie.Need-enum-told-3
 enum-told-3 c = search needs
 
-why-last-requires : tie.Need-why-last-requires
-why-last-requires c κs = search needs
+fault-of-range-end-requires : tie.Need-fault-of-range-end-requires
+fault-of-range-end-requires c κs = search needs
 
 returns-3 : tie.Need-returns-3
 unfolding rangeAt then asItem
@@ -65,10 +65,10 @@ returns-3 c =
     let after-n = c .before .before .before .before .before in
     let after-o = after-n .before .before .before .before in
     rw (
-      came resOfU64 (after-o .before .before .read-u64 .ensures) (after-o .o .given .1),
-      came resOfU64 (after-n .before .before .read-u642 .ensures) (after-n .n .given .1),
-      handed-answer answerOfLast (c .before .before .before .range-last .ensures) (c .before .enum-told3 .given .1)
-          (c .why-last .ensures) refl,
+      by-case parsedOfU64 (after-o .before .before .read-u64 .ensures) (after-o .o .given .1),
+      by-case parsedOfU64 (after-n .before .before .read-u642 .ensures) (after-n .n .given .1),
+      refusal-up answerOfRangeEnd (c .before .before .before .range-last .ensures) (c .before .enum-told3 .given .1)
+          (c .fault-of-range-end .ensures) refl,
     )
 
 returns-4 : tie.Need-returns-4
@@ -77,9 +77,9 @@ returns-4 c =
     let after-n = c .before .before .before .before .before in
     let after-o = after-n .before .before .before .before in
     rw (
-      came resOfU64 (after-o .before .before .read-u64 .ensures) (after-o .o .given .1),
-      came resOfU64 (after-n .before .before .read-u642 .ensures) (after-n .n .given .1),
-      came answerOfLast (c .before .before .before .range-last .ensures) (c .before .e .given .1),
+      by-case parsedOfU64 (after-o .before .before .read-u64 .ensures) (after-o .o .given .1),
+      by-case parsedOfU64 (after-n .before .before .read-u642 .ensures) (after-n .n .given .1),
+      by-case answerOfRangeEnd (c .before .before .before .range-last .ensures) (c .before .e .given .1),
     )
 
 pub read-range-spec : {M : Type 1} → statement M
@@ -89,16 +89,16 @@ read-range-spec =
     read-u64-requires
     enum-known-o
     enum-told
-    why-u64-requires
+    fault-of-u64-requires
     returns
     read-u64-requires-2
     enum-known-n
     enum-told-2
-    why-u64-requires-2
+    fault-of-u64-requires-2
     returns-2
     range-last-requires
     enum-known-e
     enum-told-3
-    why-last-requires
+    fault-of-range-end-requires
     returns-3
     returns-4)

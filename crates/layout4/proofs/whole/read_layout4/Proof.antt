@@ -3,9 +3,9 @@ use Prim.Native.Nat.{_+_, _-_, _≤_}
 use Rattle.layout.specs.Answers.{answerOfLayout}
 use Rattle.layout.specs.declared.body.LayoutAnswer.{LayoutAnswer}
 use Rattle.layout4.proofs.Layout4Laws.{accepted-whole, all-read, body-refused, body-short, frame-refused, left-over, padding-refused, refused-whole}
-use Rattle.layout4.specs.Answers.{resOfFrame}
-use Rattle.xdr.proofs.Steps.{came, handed, handed-answer-from}
-use Rattle.xdr.specs.Answers.{resOfPart}
+use Rattle.layout4.specs.Answers.{parsedOfFrame}
+use Rattle.xdr.proofs.Steps.{by-case, fault-up, refusal-up-from}
+use Rattle.xdr.specs.Answers.{parsedOfPart}
 use Rattle.xdr.specs.Items.{padding}
 use borrow.Author.Needs.{needs}
 use borrow.Author.Tests.{leb-true, not-false, not-true}
@@ -26,8 +26,8 @@ enum-known-f c = search needs
 enum-told : tie.Need-enum-told
 enum-told c = search needs
 
-why-frame-requires : tie.Need-why-frame-requires
-why-frame-requires c κs = search needs
+fault-of-frame-requires : tie.Need-fault-of-frame-requires
+fault-of-frame-requires c κs = search needs
 
 refused-requires : tie.Need-refused-requires
 refused-requires c κs = search needs
@@ -37,8 +37,8 @@ returns c =
     let start = c .before .before .before .before .before .before in
     refused-whole _ _ _ _ (c .refused .ensures .0) (c .refused .ensures .1)
     (frame-refused (now (start .args .s)) _
-    (handed resOfFrame (c .before .before .before .before .read-frame .ensures)
-    (c .before .before .enum-told .given .1) (c .before .why-frame .ensures) refl))
+    (fault-up parsedOfFrame (c .before .before .before .before .read-frame .ensures)
+    (c .before .before .enum-told .given .1) (c .before .fault-of-frame .ensures) refl))
 
 enough-requires : tie.Need-enough-requires
 enough-requires c κs = search needs
@@ -51,7 +51,7 @@ returns-2 c =
     let after-f = c .before .before .before .before in
     refused-whole _ _ _ _ (c .refused2 .ensures .0) (c .refused2 .ensures .1)
     (body-short (now (after-f .before .before .before .before .args .s)) _ _
-    (came resOfFrame (after-f .before .before .read-frame .ensures) (after-f .f .given .1))
+    (by-case parsedOfFrame (after-f .before .before .read-frame .ensures) (after-f .f .given .1))
     (sym (c .before .before .enough .ensures) ∙ not-true _ (c .before .if1 .taken)))
 
 cast-end : tie.Need-cast-end
@@ -90,8 +90,8 @@ enum-known-a c = search needs
 enum-told-2 : tie.Need-enum-told-2
 enum-told-2 c = search needs
 
-why-layout-requires : tie.Need-why-layout-requires
-why-layout-requires c κs = search needs
+fault-of-layout-requires : tie.Need-fault-of-layout-requires
+fault-of-layout-requires c κs = search needs
 
 refused-requires-3 : tie.Need-refused-requires-3
 refused-requires-3 c κs = search needs
@@ -105,11 +105,11 @@ returns-3 c =
     let read = rw e at (c .before .before .before .before .read-layout .ensures .0) in
     refused-whole _ _ _ _ (c .refused3 .ensures .0) (c .refused3 .ensures .1)
     (body-refused (now (after-f .before .before .before .before .args .s)) _ _
-    (came resOfFrame (after-f .before .before .read-frame .ensures) (after-f .f .given .1))
+    (by-case parsedOfFrame (after-f .before .before .read-frame .ensures) (after-f .f .given .1))
     (sym (after-if1 .before .enough .ensures) ∙ not-false _ (after-if1 .if1 .left)) _
-    (handed-answer-from (λ (r : LayoutAnswer). answerOfLayout r [])
+    (refusal-up-from (λ (r : LayoutAnswer). answerOfLayout r [])
     (λ (r : LayoutAnswer). answerOfLayout r (c .before .before .before .before .read-layout .result .starts)) read
-    (c .before .before .enum-told2 .given .1) (c .before .why-layout .ensures) refl refl))
+    (c .before .before .enum-told2 .given .1) (c .before .fault-of-layout .ensures) refl refl))
 
 cast-read-bytes : tie.Need-cast-read-bytes
 cast-read-bytes c = search needs
@@ -123,8 +123,8 @@ enum-known-p c = search needs
 enum-told-3 : tie.Need-enum-told-3
 enum-told-3 c = search needs
 
-why-part-requires : tie.Need-why-part-requires
-why-part-requires c κs = search needs
+fault-of-part-requires : tie.Need-fault-of-part-requires
+fault-of-part-requires c κs = search needs
 
 refused-requires-4 : tie.Need-refused-requires-4
 refused-requires-4 c κs = search needs
@@ -139,12 +139,12 @@ returns-4 c =
     let read = rw e at (after-a .before .before .read-layout .ensures .0) in
     refused-whole _ _ _ _ (c .refused4 .ensures .0) (c .refused4 .ensures .1)
     (padding-refused (now (after-f .before .before .before .before .args .s)) _ _
-    (came resOfFrame (after-f .before .before .read-frame .ensures) (after-f .f .given .1))
+    (by-case parsedOfFrame (after-f .before .before .read-frame .ensures) (after-f .f .given .1))
     (sym (after-if1 .before .enough .ensures) ∙ not-false _ (after-if1 .if1 .left)) _
-    (came (λ (r : LayoutAnswer). answerOfLayout r (after-a .before .before .read-layout .result .starts)) read
+    (by-case (λ (r : LayoutAnswer). answerOfLayout r (after-a .before .before .read-layout .result .starts)) read
     (after-a .a .given .1)) _
-    (handed resOfPart (c .before .before .before .before .read-bytes .ensures)
-    (c .before .before .enum-told3 .given .1) (c .before .why-part .ensures) refl))
+    (fault-up parsedOfPart (c .before .before .before .before .read-bytes .ensures)
+    (c .before .before .enum-told3 .given .1) (c .before .fault-of-part .ensures) refl))
 
 refused-requires-5 : tie.Need-refused-requires-5
 refused-requires-5 c κs = search needs
@@ -160,10 +160,10 @@ returns-5 c =
     let read = rw e at (after-a .before .before .read-layout .ensures .0) in
     refused-whole _ _ _ _ (c .refused5 .ensures .0) (c .refused5 .ensures .1)
     (left-over (now (after-f .before .before .before .before .args .s)) _ _
-    (came resOfFrame (after-f .before .before .read-frame .ensures) (after-f .f .given .1))
+    (by-case parsedOfFrame (after-f .before .before .read-frame .ensures) (after-f .f .given .1))
     (sym (after-if1 .before .enough .ensures) ∙ not-false _ (after-if1 .if1 .left)) _
-    (came (λ (r : LayoutAnswer). answerOfLayout r (after-a .before .before .read-layout .result .starts)) read
-    (after-a .a .given .1)) _ _ (came resOfPart (after-p .before .before .read-bytes .ensures) (after-p .p .given .1))
+    (by-case (λ (r : LayoutAnswer). answerOfLayout r (after-a .before .before .read-layout .result .starts)) read
+    (after-a .a .given .1)) _ _ (by-case parsedOfPart (after-p .before .before .read-bytes .ensures) (after-p .p .given .1))
     (c .before .if2 .taken))
 
 layout4-in-requires : tie.Need-layout4-in-requires
@@ -181,10 +181,10 @@ returns-6 c =
     rw (c .layout4-in .ensures)
     (accepted-whole _ _ _ _
     (all-read (now (after-f .before .before .before .before .args .s)) _ _
-    (came resOfFrame (after-f .before .before .read-frame .ensures) (after-f .f .given .1))
+    (by-case parsedOfFrame (after-f .before .before .read-frame .ensures) (after-f .f .given .1))
     (sym (after-if1 .before .enough .ensures) ∙ not-false _ (after-if1 .if1 .left)) _
-    (came (λ (r : LayoutAnswer). answerOfLayout r (after-a .before .before .read-layout .result .starts)) read
-    (after-a .a .given .1)) _ _ (came resOfPart (after-p .before .before .read-bytes .ensures) (after-p .p .given .1))
+    (by-case (λ (r : LayoutAnswer). answerOfLayout r (after-a .before .before .read-layout .result .starts)) read
+    (after-a .a .given .1)) _ _ (by-case parsedOfPart (after-p .before .before .read-bytes .ensures) (after-p .p .given .1))
     (c .before .before .if2 .left)))
 
 pub read-layout4-spec : {M : Type 1} → statement M
@@ -194,7 +194,7 @@ read-layout4-spec =
     read-frame-requires
     enum-known-f
     enum-told
-    why-frame-requires
+    fault-of-frame-requires
     refused-requires
     returns
     enough-requires
@@ -208,14 +208,14 @@ read-layout4-spec =
     read-layout-requires
     enum-known-a
     enum-told-2
-    why-layout-requires
+    fault-of-layout-requires
     refused-requires-3
     returns-3
     cast-read-bytes
     read-bytes-requires
     enum-known-p
     enum-told-3
-    why-part-requires
+    fault-of-part-requires
     refused-requires-4
     returns-4
     refused-requires-5

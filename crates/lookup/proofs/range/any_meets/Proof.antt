@@ -18,8 +18,8 @@ Inv-loop first last c g n k₀ k = (k ≤ n) × (anyMeets (satisfies c) first la
 abbrev μ-loop : tie.MeasureT-loop
 μ-loop first last c g n k₀ k = n - k
 
-used-places-requires : tie.Need-used-places-requires Inv-loop μ-loop
-used-places-requires c κs = search needs
+used-entries-requires : tie.Need-used-entries-requires Inv-loop μ-loop
+used-entries-requires c κs = search needs
 
 loop-holds : tie.Need-loop-holds Inv-loop μ-loop
 loop-holds c = (omega arith, refl)
@@ -75,7 +75,7 @@ any-meets-spec =
     (tie.spec
     Inv-loop
     μ-loop
-    used-places-requires
+    used-entries-requires
     loop-holds
     mul-s
     element-copy-out-s

@@ -3,10 +3,10 @@
 use Prim.Native.Nat.{_+_, _-_, _≤_}
 use Rattle.base.specs.Lists.{padded}
 use Rattle.report.proofs.ReportLaws.{arrays-done, arrays-next, arrays-refused, heads-next, places-next, stateid-inside}
-use Rattle.report.specs.Answers.{arraysFrom, headFrom, headsOf, placesOf, resOfReport}
+use Rattle.report.specs.Answers.{arraysFrom, headFrom, headsOf, offsetsOf, parsedOfReport}
 use Rattle.report.specs.Reports.{Report, reportAt}
-use Rattle.xdr.proofs.Steps.{came, handed-from}
-use Rattle.xdr.specs.Res.{manyAt}
+use Rattle.xdr.proofs.Steps.{by-case, fault-up-from}
+use Rattle.xdr.specs.Parsed.{manyAt}
 use borrow.Author.Needs.{needs}
 use denote.Ref.{now}
 use lib.ListN.{length, length-append}
@@ -19,7 +19,7 @@ use Rattle.report.proofs.body.read_arrays.Tie as tie
 
 abbrev Inv-loop : tie.InvT-loop
 Inv-loop s n heads₀ errors-at₀ d₀ i₀ count heads errors-at d i =
-    (done : List Report) × (length done ≡ i) × (i ≤ n) × (count ≡ n) × (n ≤ 8) × (heads ≡ headsOf done) × (errors-at ≡ placesOf done)
+    (done : List Report) × (length done ≡ i) × (i ≤ n) × (count ≡ n) × (n ≤ 8) × (heads ≡ headsOf done) × (errors-at ≡ offsetsOf done)
     × (arraysFrom [] (manyAt reportAt n s (d₀ .at)) ≡ arraysFrom done (manyAt reportAt (n - i) s (d .at)))
 
 abbrev μ-loop : tie.MeasureT-loop
@@ -41,8 +41,8 @@ enum-known-r c = search needs
 enum-told : tie.Need-enum-told Inv-loop μ-loop
 enum-told c = search needs
 
-why-report-requires : tie.Need-why-report-requires Inv-loop μ-loop
-why-report-requires c κs = search needs
+fault-of-report-requires : tie.Need-fault-of-report-requires Inv-loop μ-loop
+fault-of-report-requires c κs = search needs
 
 returns : tie.Need-returns Inv-loop μ-loop
 returns c =
@@ -52,15 +52,15 @@ returns c =
     rw (
       l .inv .7,
       arrays-refused (l .inv .0) (at-loop .before .before .before .args .n - l .i) s (l .d .at) _ (omega arith)
-          (handed-from (resOfReport []) (resOfReport s) (c .before .before .before .read-report .ensures)
-          (c .before .enum-told .given .1) (c .why-report .ensures) refl refl),
+          (fault-up-from (parsedOfReport []) (parsedOfReport s) (c .before .before .before .read-report .ensures)
+          (c .before .enum-told .given .1) (c .fault-of-report .ensures) refl refl),
     )
 
 head-of-requires : tie.Need-head-of-requires Inv-loop μ-loop
 head-of-requires c κs =
     let at-loop = c .before .before .before .before .before in
     stateid-inside (now (at-loop .before .before .before .args .s)) (at-loop .loop .d .at) _ _ _
-    (came (resOfReport (now (at-loop .before .before .before .args .s)))
+    (by-case (parsedOfReport (now (at-loop .before .before .before .args .s)))
     (c .before .before .before .read-report .ensures) (c .before .r .given .1))
 
 mul-heads : tie.Need-mul-heads Inv-loop μ-loop
@@ -90,7 +90,7 @@ loop-again c =
     let e : start .args .n - (l .i + 1) ≡ start .args .n - l .i - 1 = omega arith in
     let r : Report = record { head = headFrom s (after-r .r .given .0 .0); errors-at = after-r .r .given .0 .1 .0 } in
     let n : length (l .inv .0 ++ (r ∷ [])) ≡ l .i + 1 = simp length-append (omega (arith, l .inv .1)) in
-    let k = came (resOfReport s) (after-r .before .before .read-report .ensures) (after-r .r .given .1) in (
+    let k = by-case (parsedOfReport s) (after-r .before .before .read-report .ensures) (after-r .r .given .1) in (
       l .inv .0 ++ (r ∷ []),
       n,
       omega arith,
@@ -118,7 +118,7 @@ read-arrays-spec =
     read-report-requires
     enum-known-r
     enum-told
-    why-report-requires
+    fault-of-report-requires
     returns
     head-of-requires
     mul-heads

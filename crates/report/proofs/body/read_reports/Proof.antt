@@ -2,11 +2,11 @@
 use Rattle.base.specs.Answer.{accepted, pick}
 use Rattle.base.specs.Refusals.{faultNumber}
 use Rattle.report.proofs.ReportLaws.{answer-accepted, answer-refused, arrays-no, arrays-ok, body-accepted, body-ends}
-use Rattle.report.specs.Answers.{resOfArrays}
+use Rattle.report.specs.Answers.{parsedOfArrays}
 use Rattle.report.specs.Reports.{reportBody}
-use Rattle.xdr.proofs.Steps.{came, handed, handed-from}
-use Rattle.xdr.specs.Answers.{resOfEnd}
-use Rattle.xdr.specs.Res.{then, whole}
+use Rattle.xdr.proofs.Steps.{by-case, fault-up, fault-up-from}
+use Rattle.xdr.specs.Answers.{parsedOfEnd}
+use Rattle.xdr.specs.Parsed.{then, whole}
 use Rattle.xdr.specs.declared.end.ReadEnd.{ReadEnd}
 use borrow.Author.Needs.{needs}
 use borrow.Author.Tests.{ne-eqb}
@@ -24,8 +24,8 @@ enum-known-end c = search needs
 enum-told : tie.Need-enum-told
 enum-told c = search needs
 
-why-end-requires : tie.Need-why-end-requires
-why-end-requires c κs = search needs
+fault-of-end-requires : tie.Need-fault-of-end-requires
+fault-of-end-requires c κs = search needs
 
 refused-requires : tie.Need-refused-requires
 refused-requires c κs = search needs
@@ -35,11 +35,11 @@ unfolding then whole
 returns c =
     let start = c .before .before .before .before .before .before in
     let r = c .before .before .before .before .reports-part .result in
-    let w = faultNumber (c .before .why-end .result) in
+    let w = faultNumber (c .before .fault-of-end .result) in
     let n = arrays-no _ w
-    (handed-from resOfEnd (λ (e : ReadEnd). resOfArrays e (r .count) (r .heads) (r .«errors_at»))
+    (fault-up-from parsedOfEnd (λ (e : ReadEnd). parsedOfArrays e (r .count) (r .heads) (r .«errors_at»))
     (c .before .before .before .before .reports-part .ensures) (c .before .before .enum-told .given .1)
-    (c .before .why-end .ensures) refl refl) in
+    (c .before .fault-of-end .ensures) refl refl) in
     answer-refused _ w _ _ _ (rw (body-ends (now (start .args .s)), n)) (c .refused .ensures)
 
 statistics-end-requires : tie.Need-statistics-end-requires
@@ -51,8 +51,8 @@ enum-known-last c = search needs
 enum-told-2 : tie.Need-enum-told-2
 enum-told-2 c = search needs
 
-why-end-requires-2 : tie.Need-why-end-requires-2
-why-end-requires-2 c κs = search needs
+fault-of-end-requires-2 : tie.Need-fault-of-end-requires-2
+fault-of-end-requires-2 c κs = search needs
 
 refused-requires-2 : tie.Need-refused-requires-2
 refused-requires-2 c κs = search needs
@@ -64,14 +64,14 @@ returns-2 c =
     let r = after-end .before .before .reports-part .result in
     let s = now (after-end .before .before .before .before .args .s) in
     let a = arrays-ok _ (r .count) (r .heads) (r .«errors_at») _
-    (came (λ (e : ReadEnd). resOfArrays e (r .count) (r .heads) (r .«errors_at»))
+    (by-case (λ (e : ReadEnd). parsedOfArrays e (r .count) (r .heads) (r .«errors_at»))
     (after-end .before .before .reports-part .ensures) (after-end .end .given .1)) in
-    answer-refused _ (faultNumber (c .before .why-end2 .result)) _ _ _
+    answer-refused _ (faultNumber (c .before .fault-of-end2 .result)) _ _ _
     (rw (
       body-ends s,
       a .were,
-      handed resOfEnd (c .before .before .before .before .statistics-end .ensures)
-          (c .before .before .enum-told2 .given .1) (c .before .why-end2 .ensures) refl,
+      fault-up parsedOfEnd (c .before .before .before .before .statistics-end .ensures)
+          (c .before .before .enum-told2 .given .1) (c .before .fault-of-end2 .ensures) refl,
     )) (c .refused2 .ensures)
 
 refused-requires-3 : tie.Need-refused-requires-3
@@ -85,13 +85,13 @@ returns-3 c =
     let r = after-end .before .before .reports-part .result in
     let s = now (after-end .before .before .before .before .args .s) in
     let a = arrays-ok _ (r .count) (r .heads) (r .«errors_at») _
-    (came (λ (e : ReadEnd). resOfArrays e (r .count) (r .heads) (r .«errors_at»))
+    (by-case (λ (e : ReadEnd). parsedOfArrays e (r .count) (r .heads) (r .«errors_at»))
     (after-end .before .before .reports-part .ensures) (after-end .end .given .1)) in
     answer-refused _ 2 _ _ _
     (rw (
       body-ends s,
       a .were,
-      came resOfEnd (after-last .before .before .statistics-end .ensures) (after-last .last .given .1),
+      by-case parsedOfEnd (after-last .before .before .statistics-end .ensures) (after-last .last .given .1),
       ne-eqb _ _ (c .before .if1 .taken),
     )) (c .refused3 .ensures)
 
@@ -102,12 +102,12 @@ returns-4 c =
     let r = after-end .before .before .reports-part .result in
     let s = now (after-end .before .before .before .before .args .s) in
     let a = arrays-ok _ (r .count) (r .heads) (r .«errors_at») _
-    (came (λ (e : ReadEnd). resOfArrays e (r .count) (r .heads) (r .«errors_at»))
+    (by-case (λ (e : ReadEnd). parsedOfArrays e (r .count) (r .heads) (r .«errors_at»))
     (after-end .before .before .reports-part .ensures) (after-end .end .given .1)) in
     answer-accepted (reportBody s) (a .reports) _ _ _
     (body-accepted s (a .reports) _ _ (a .were)
-    (came resOfEnd (after-last .before .before .statistics-end .ensures) (after-last .last .given .1))
-    (c .before .before .if1 .left)) (ap accepted (a .count), a .heads, a .places)
+    (by-case parsedOfEnd (after-last .before .before .statistics-end .ensures) (after-last .last .given .1))
+    (c .before .before .if1 .left)) (ap accepted (a .count), a .heads, a .offsets)
 
 pub read-reports-spec : {M : Type 1} → statement M
 read-reports-spec =
@@ -116,13 +116,13 @@ read-reports-spec =
     reports-part-requires
     enum-known-end
     enum-told
-    why-end-requires
+    fault-of-end-requires
     refused-requires
     returns
     statistics-end-requires
     enum-known-last
     enum-told-2
-    why-end-requires-2
+    fault-of-end-requires-2
     refused-requires-2
     returns-2
     refused-requires-3

@@ -1,9 +1,9 @@
--- `report::error::read_error` meets its contract: three items, then the judgement.
+-- `report::error::read_error` meets its contract: three items, then the check.
 use Rattle.base.specs.Answer.{pick}
 use Rattle.report.specs.Reports.{errorAt}
-use Rattle.xdr.proofs.Steps.{came, handed}
-use Rattle.xdr.specs.Answers.{resOfPart, resOfU32}
-use Rattle.xdr.specs.Res.{then}
+use Rattle.xdr.proofs.Steps.{by-case, fault-up}
+use Rattle.xdr.specs.Answers.{parsedOfPart, parsedOfU32}
+use Rattle.xdr.specs.Parsed.{then}
 use borrow.Author.Needs.{needs}
 use borrow.Author.Tests.{not-true, not-false}
 use mathlib.Core.Path.{refl, sym, _∙_}
@@ -19,12 +19,12 @@ enum-known-rd c = search needs
 enum-told : tie.Need-enum-told
 enum-told c = search needs
 
-why-part-requires : tie.Need-why-part-requires
-why-part-requires c κs = search needs
+fault-of-part-requires : tie.Need-fault-of-part-requires
+fault-of-part-requires c κs = search needs
 
 returns : tie.Need-returns
 unfolding errorAt then
-returns c = rw (handed resOfPart (c .before .before .before .read-bytes .ensures) (c .before .enum-told .given .1) (c .why-part .ensures) refl)
+returns c = rw (fault-up parsedOfPart (c .before .before .before .read-bytes .ensures) (c .before .enum-told .given .1) (c .fault-of-part .ensures) refl)
 
 read-u32-requires : tie.Need-read-u32-requires
 read-u32-requires c κs = search needs
@@ -35,17 +35,17 @@ enum-known-rs c = search needs
 enum-told-2 : tie.Need-enum-told-2
 enum-told-2 c = search needs
 
-why-u32-requires : tie.Need-why-u32-requires
-why-u32-requires c κs = search needs
+fault-of-u32-requires : tie.Need-fault-of-u32-requires
+fault-of-u32-requires c κs = search needs
 
 returns-2 : tie.Need-returns-2
 unfolding errorAt then
 returns-2 c =
     let after-rd = c .before .before .before .before .before in
     rw (
-      came resOfPart (after-rd .before .before .read-bytes .ensures) (after-rd .rd .given .1),
-      handed resOfU32 (c .before .before .before .read-u32 .ensures) (c .before .enum-told2 .given .1)
-          (c .why-u32 .ensures) refl,
+      by-case parsedOfPart (after-rd .before .before .read-bytes .ensures) (after-rd .rd .given .1),
+      fault-up parsedOfU32 (c .before .before .before .read-u32 .ensures) (c .before .enum-told2 .given .1)
+          (c .fault-of-u32 .ensures) refl,
     )
 
 read-u32-requires-2 : tie.Need-read-u32-requires-2
@@ -57,8 +57,8 @@ enum-known-ro c = search needs
 enum-told-3 : tie.Need-enum-told-3
 enum-told-3 c = search needs
 
-why-u32-requires-2 : tie.Need-why-u32-requires-2
-why-u32-requires-2 c κs = search needs
+fault-of-u32-requires-2 : tie.Need-fault-of-u32-requires-2
+fault-of-u32-requires-2 c κs = search needs
 
 returns-3 : tie.Need-returns-3
 unfolding errorAt then
@@ -66,10 +66,10 @@ returns-3 c =
     let after-rs = c .before .before .before .before .before in
     let after-rd = after-rs .before .before .before .before in
     rw (
-      came resOfPart (after-rd .before .before .read-bytes .ensures) (after-rd .rd .given .1),
-      came resOfU32 (after-rs .before .before .read-u32 .ensures) (after-rs .rs .given .1),
-      handed resOfU32 (c .before .before .before .read-u322 .ensures) (c .before .enum-told3 .given .1)
-          (c .why-u322 .ensures) refl,
+      by-case parsedOfPart (after-rd .before .before .read-bytes .ensures) (after-rd .rd .given .1),
+      by-case parsedOfU32 (after-rs .before .before .read-u32 .ensures) (after-rs .rs .given .1),
+      fault-up parsedOfU32 (c .before .before .before .read-u322 .ensures) (c .before .enum-told3 .given .1)
+          (c .fault-of-u322 .ensures) refl,
     )
 
 error-fits-requires : tie.Need-error-fits-requires
@@ -82,9 +82,9 @@ returns-4 c =
     let after-rs = after-ro .before .before .before .before in
     let after-rd = after-rs .before .before .before .before in
     rw (
-      came resOfPart (after-rd .before .before .read-bytes .ensures) (after-rd .rd .given .1),
-      came resOfU32 (after-rs .before .before .read-u32 .ensures) (after-rs .rs .given .1),
-      came resOfU32 (after-ro .before .before .read-u322 .ensures) (after-ro .ro .given .1),
+      by-case parsedOfPart (after-rd .before .before .read-bytes .ensures) (after-rd .rd .given .1),
+      by-case parsedOfU32 (after-rs .before .before .read-u32 .ensures) (after-rs .rs .given .1),
+      by-case parsedOfU32 (after-ro .before .before .read-u322 .ensures) (after-ro .ro .given .1),
       sym (c .before .error-fits .ensures) ∙ not-true _ (c .if1 .taken),
     )
 
@@ -95,9 +95,9 @@ returns-5 c =
     let after-rs = after-ro .before .before .before .before in
     let after-rd = after-rs .before .before .before .before in
     rw (
-      came resOfPart (after-rd .before .before .read-bytes .ensures) (after-rd .rd .given .1),
-      came resOfU32 (after-rs .before .before .read-u32 .ensures) (after-rs .rs .given .1),
-      came resOfU32 (after-ro .before .before .read-u322 .ensures) (after-ro .ro .given .1),
+      by-case parsedOfPart (after-rd .before .before .read-bytes .ensures) (after-rd .rd .given .1),
+      by-case parsedOfU32 (after-rs .before .before .read-u32 .ensures) (after-rs .rs .given .1),
+      by-case parsedOfU32 (after-ro .before .before .read-u322 .ensures) (after-ro .ro .given .1),
       sym (c .before .error-fits .ensures) ∙ not-false _ (c .if1 .left),
     )
 
@@ -108,17 +108,17 @@ read-error-spec =
     read-bytes-requires
     enum-known-rd
     enum-told
-    why-part-requires
+    fault-of-part-requires
     returns
     read-u32-requires
     enum-known-rs
     enum-told-2
-    why-u32-requires
+    fault-of-u32-requires
     returns-2
     read-u32-requires-2
     enum-known-ro
     enum-told-3
-    why-u32-requires-2
+    fault-of-u32-requires-2
     returns-3
     error-fits-requires
     returns-4

@@ -1,10 +1,10 @@
 -- `report::error::read_errors` meets its contract. The loop's invariant: the errors passed are allowed, so what is left decides. The measure is
 -- how many are left.
-use Rattle.report.specs.Answers.{resOfError}
+use Rattle.report.specs.Answers.{parsedOfError}
 use Rattle.report.specs.Reports.{errorAt}
 use Rattle.xdr.proofs.EndLaws.{first-refuses, none-end, others-end}
-use Rattle.xdr.proofs.Steps.{came, handed}
-use Rattle.xdr.specs.Res.{manyAt, endOf}
+use Rattle.xdr.proofs.Steps.{by-case, fault-up}
+use Rattle.xdr.specs.Parsed.{manyAt, endOf}
 use borrow.Author.Needs.{needs}
 use denote.Ref.{now}
 use mathlib.Core.Path.{_≡_, refl, _∙_}
@@ -30,8 +30,8 @@ enum-known-r c = search needs
 enum-told : tie.Need-enum-told Inv-loop μ-loop
 enum-told c = search needs
 
-why-error-requires : tie.Need-why-error-requires Inv-loop μ-loop
-why-error-requires c κs = search needs
+fault-of-error-requires : tie.Need-fault-of-error-requires Inv-loop μ-loop
+fault-of-error-requires c κs = search needs
 
 returns : tie.Need-returns Inv-loop μ-loop
 returns c =
@@ -40,8 +40,8 @@ returns c =
     rw (
       l .inv,
       first-refuses errorAt (l .left) (now (at-loop .before .before .args .s)) (l .d .at) _ (omega arith)
-          (handed resOfError (c .before .before .before .read-error .ensures) (c .before .enum-told .given .1)
-          (c .why-error .ensures) refl),
+          (fault-up parsedOfError (c .before .before .before .read-error .ensures) (c .before .enum-told .given .1)
+          (c .fault-of-error .ensures) refl),
     )
 
 sub-left : tie.Need-sub-left Inv-loop μ-loop
@@ -56,7 +56,7 @@ loop-again c =
     let l = at-loop .loop in
     l .inv
     ∙ others-end errorAt (l .left) (now (at-loop .before .before .args .s)) (l .d .at) _ _ (omega arith)
-    (came resOfError (c .before .before .before .read-error .ensures) (c .before .r .given .1))
+    (by-case parsedOfError (c .before .before .before .read-error .ensures) (c .before .r .given .1))
 
 returns-2 : tie.Need-returns-2 Inv-loop μ-loop
 returns-2 c =
@@ -73,7 +73,7 @@ read-errors-spec =
     read-error-requires
     enum-known-r
     enum-told
-    why-error-requires
+    fault-of-error-requires
     returns
     sub-left
     loop-less

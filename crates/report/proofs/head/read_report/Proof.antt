@@ -1,9 +1,9 @@
 -- `report::head::read_report` meets its contract: the head, then its errors.
 use Rattle.report.proofs.ReportLaws.{report-ends}
-use Rattle.report.specs.Answers.{resOfHead}
-use Rattle.xdr.proofs.Steps.{came, handed, handed-from}
-use Rattle.xdr.specs.Answers.{resOfEnd}
-use Rattle.xdr.specs.Res.{then}
+use Rattle.report.specs.Answers.{parsedOfReportHead}
+use Rattle.xdr.proofs.Steps.{by-case, fault-up, fault-up-from}
+use Rattle.xdr.specs.Answers.{parsedOfEnd}
+use Rattle.xdr.specs.Parsed.{then}
 use borrow.Author.Needs.{needs}
 use denote.Ref.{now}
 use mathlib.Core.List.{[]}
@@ -11,8 +11,8 @@ use mathlib.Core.Path.{refl}
 use Rattle.report.proofs.head.read_report.Statement.{statement}
 use Rattle.report.proofs.head.read_report.Tie as tie
 
-read-head-requires : tie.Need-read-head-requires
-read-head-requires c κs = search needs
+read-report-head-requires : tie.Need-read-report-head-requires
+read-report-head-requires c κs = search needs
 
 enum-known-rh : tie.Need-enum-known-rh
 enum-known-rh c = search needs
@@ -20,8 +20,8 @@ enum-known-rh c = search needs
 enum-told : tie.Need-enum-told
 enum-told c = search needs
 
-why-head-requires : tie.Need-why-head-requires
-why-head-requires c κs = search needs
+fault-of-report-head-requires : tie.Need-fault-of-report-head-requires
+fault-of-report-head-requires c κs = search needs
 
 returns : tie.Need-returns
 unfolding then
@@ -30,8 +30,8 @@ returns c =
     let s = now (start .args .s) in
     rw (
       report-ends s (start .args .c .at),
-      handed-from (resOfHead []) (resOfHead s) (c .before .before .before .read-head .ensures)
-          (c .before .enum-told .given .1) (c .why-head .ensures) refl refl,
+      fault-up-from (parsedOfReportHead []) (parsedOfReportHead s) (c .before .before .before .read-report-head .ensures)
+          (c .before .enum-told .given .1) (c .fault-of-report-head .ensures) refl refl,
     )
 
 read-errors-requires : tie.Need-read-errors-requires
@@ -43,8 +43,8 @@ enum-known-re c = search needs
 enum-told-2 : tie.Need-enum-told-2
 enum-told-2 c = search needs
 
-why-end-requires : tie.Need-why-end-requires
-why-end-requires c κs = search needs
+fault-of-end-requires : tie.Need-fault-of-end-requires
+fault-of-end-requires c κs = search needs
 
 returns-2 : tie.Need-returns-2
 unfolding then
@@ -54,9 +54,9 @@ returns-2 c =
     let s = now (start .args .s) in
     rw (
       report-ends s (start .args .c .at),
-      came (resOfHead s) (after-rh .before .before .read-head .ensures) (after-rh .rh .given .1),
-      handed resOfEnd (c .before .before .before .read-errors .ensures) (c .before .enum-told2 .given .1)
-          (c .why-end .ensures) refl,
+      by-case (parsedOfReportHead s) (after-rh .before .before .read-report-head .ensures) (after-rh .rh .given .1),
+      fault-up parsedOfEnd (c .before .before .before .read-errors .ensures) (c .before .enum-told2 .given .1)
+          (c .fault-of-end .ensures) refl,
     )
 
 returns-3 : tie.Need-returns-3
@@ -67,22 +67,22 @@ returns-3 c =
     let s = now (start .args .s) in
     rw (
       report-ends s (start .args .c .at),
-      came (resOfHead s) (after-rh .before .before .read-head .ensures) (after-rh .rh .given .1),
-      came resOfEnd (c .before .before .before .read-errors .ensures) (c .before .re .given .1),
+      by-case (parsedOfReportHead s) (after-rh .before .before .read-report-head .ensures) (after-rh .rh .given .1),
+      by-case parsedOfEnd (c .before .before .before .read-errors .ensures) (c .before .re .given .1),
     )
 
 pub read-report-spec : {M : Type 1} → statement M
 read-report-spec =
     tie.close
     (tie.spec
-    read-head-requires
+    read-report-head-requires
     enum-known-rh
     enum-told
-    why-head-requires
+    fault-of-report-head-requires
     returns
     read-errors-requires
     enum-known-re
     enum-told-2
-    why-end-requires
+    fault-of-end-requires
     returns-2
     returns-3)

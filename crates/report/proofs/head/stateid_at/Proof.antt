@@ -3,8 +3,8 @@
 use Prim.Native.Nat.{_+_, _-_, _≤_}
 use Rattle.base.proofs.ListLaws.{padded-next, padded-whole}
 use Rattle.base.specs.Lists.{padded}
-use Rattle.numbers.proofs.NumberLaws.{last-of-run, length-bytes}
-use Rattle.numbers.specs.Numbers.{bytesFrom}
+use Rattle.bytes.proofs.NumberLaws.{last-of-run, length-bytes}
+use Rattle.bytes.specs.Numbers.{bytesFrom}
 use borrow.Author.Needs.{needs}
 use denote.Ref.{now}
 use lib.ListN.{getD}

@@ -1,8 +1,8 @@
 -- `route::mirrors::efficiency` meets its contract: the number behind the start that `start_of` gives.
 use Prim.Native.Nat.{ℕ, _+_}
-use Rattle.numbers.specs.Numbers.{beAt}
+use Rattle.bytes.specs.Numbers.{beAt}
 use Rattle.route.specs.Mirrors.{efficiencyOf}
-use Rattle.server.specs.Servers.{efficiencyOffset}
+use Rattle.server.specs.Servers.{serverEfficiencyOffset}
 use borrow.Author.Needs.{needs}
 use denote.Ref.{now}
 use mathlib.Core.Path.{ap, _∙_}
@@ -23,7 +23,7 @@ be4-requires c κs = search needs
 
 returns : tie.Need-returns
 unfolding efficiencyOf
-returns c = c .be4 .ensures ∙ ap (λ (k : ℕ). beAt 4 (now (c .before .before .before .args .body)) (k + efficiencyOffset)) (c .before .start-of .ensures)
+returns c = c .be4 .ensures ∙ ap (λ (k : ℕ). beAt 4 (now (c .before .before .before .args .body)) (k + serverEfficiencyOffset)) (c .before .start-of .ensures)
 
 pub efficiency-spec : {M : Type 1} → statement M
 efficiency-spec = tie.close (tie.spec start-of-requires cast-start add-be4 be4-requires returns)

@@ -1,4 +1,4 @@
--- `route::mirrors::power` meets its contract. The loop's invariant: p is 2 to the i. The measure is how many turns are left.
+-- `route::mirrors::power` meets its contract. The loop's invariant: p is 2 to the i. The measure is how many steps are left.
 use Prim.Native.Nat.{_-_, _≤_, _^_, _<_}
 use lib.Pow.{pow-lt, pow-pos}
 use mathlib.Core.Path.{_≡_, refl, sym}

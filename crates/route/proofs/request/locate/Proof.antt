@@ -1,11 +1,11 @@
 -- `route::request::locate` meets its contract: soundness, then the range, then what serves.
-use Rattle.base.specs.Ranges.{answerOfLast}
+use Rattle.base.specs.Ranges.{answerOfRangeEnd}
 use Rattle.layout.specs.Answers.{answerOfLayout}
 use Rattle.layout.specs.declared.body.LayoutAnswer.{LayoutAnswer}
 use Rattle.route.proofs.RouteLaws.{barred, is-served, is-unsound, not-barred, not-granted, not-served, range-refused}
 use Rattle.route.proofs.ServedLaws.{body-asked, body-not-refused, served-limits}
 use Rattle.route.specs.Answers.{answerOfGrant, slotAsked}
-use Rattle.xdr.proofs.Steps.{came, handed-answer}
+use Rattle.xdr.proofs.Steps.{by-case, refusal-up}
 use borrow.Author.Needs.{needs}
 use borrow.Author.Tests.{not-false, not-true}
 use denote.Ref.{now}
@@ -19,13 +19,13 @@ serving-grant-requires c κs = search needs
 slot-asked-requires : tie.Need-slot-asked-requires
 slot-asked-requires c κs = search needs
 
-judge-and-read-requires : tie.Need-judge-and-read-requires
-judge-and-read-requires c κs = search needs
+validate-and-read-requires : tie.Need-validate-and-read-requires
+validate-and-read-requires c κs = search needs
 
 returns : tie.Need-returns
 returns c =
     let a = c .before .before .before .before .before .before .args in
-    sym (is-unsound (a .write) (a .t) (now (a .store)) (a .offset) (a .len) (sym (c .before .before .judge-and-read .ensures .0) ∙ not-true _ (c .if1 .taken)))
+    sym (is-unsound (a .write) (a .t) (now (a .store)) (a .offset) (a .len) (sym (c .before .before .validate-and-read .ensures .0) ∙ not-true _ (c .if1 .taken)))
 
 request-last-requires : tie.Need-request-last-requires
 request-last-requires c κs = search needs
@@ -36,17 +36,17 @@ enum-told c = search needs
 enum-told-2 : tie.Need-enum-told-2
 enum-told-2 c = search needs
 
-why-last-requires : tie.Need-why-last-requires
-why-last-requires c κs = search needs
+fault-of-range-end-requires : tie.Need-fault-of-range-end-requires
+fault-of-range-end-requires c κs = search needs
 
 returns-2 : tie.Need-returns-2
 returns-2 c =
     let after-if1 = c .before .before .before .before in
     let a = after-if1 .before .before .before .before .before .before .args in
     sym (range-refused (a .write) (a .t) (now (a .store)) (a .offset) (a .len) _
-    (sym (after-if1 .before .before .judge-and-read .ensures .0) ∙ not-false _ (after-if1 .if1 .left))
-    (handed-answer answerOfLast (c .before .before .before .request-last .ensures) (c .before .enum-told2 .given .1)
-    (c .why-last .ensures) refl))
+    (sym (after-if1 .before .before .validate-and-read .ensures .0) ∙ not-false _ (after-if1 .if1 .left))
+    (refusal-up answerOfRangeEnd (c .before .before .before .request-last .ensures) (c .before .enum-told2 .given .1)
+    (c .fault-of-range-end .ensures) refl))
 
 enum-known-h : tie.Need-enum-known-h
 enum-known-h c = search needs
@@ -58,11 +58,11 @@ returns-3 : tie.Need-returns-3
 returns-3 c =
     let after-if1 = c .before .before .before .before .before in
     let a = after-if1 .before .before .before .before .before .before .args in
-    let s = sym (after-if1 .before .before .judge-and-read .ensures .0) ∙ not-false _ (after-if1 .if1 .left) in
-    let r = came answerOfLast (c .before .before .before .before .request-last .ensures)
+    let s = sym (after-if1 .before .before .validate-and-read .ensures .0) ∙ not-false _ (after-if1 .if1 .left) in
+    let r = by-case answerOfRangeEnd (c .before .before .before .before .request-last .ensures)
     (c .before .before .enum-told .given .1) in
     let g =
-    came answerOfGrant (after-if1 .before .before .before .before .serving-grant .ensures) (c .enum-told3 .given .1) in
+    by-case answerOfGrant (after-if1 .before .before .before .before .serving-grant .ensures) (c .enum-told3 .given .1) in
     sym (not-served (a .write) (a .t) (now (a .store)) (a .offset) (a .len) _ _ s r
     (not-granted (a .write) (a .t) (a .offset) (now (a .store)) _ g))
 
@@ -78,12 +78,12 @@ returns-4 c =
     let after-if1 = after-h .before .before .before .before .before in
     let after-slot-asked = after-if1 .before .before .before in
     let a = after-slot-asked .before .before .before .args in
-    let s = sym (after-if1 .before .before .judge-and-read .ensures .0) ∙ not-false _ (after-if1 .if1 .left) in
-    let g = came answerOfGrant (after-slot-asked .before .serving-grant .ensures) (after-h .h .given .1) in
+    let s = sym (after-if1 .before .before .validate-and-read .ensures .0) ∙ not-false _ (after-if1 .if1 .left) in
+    let g = by-case answerOfGrant (after-slot-asked .before .serving-grant .ensures) (after-h .h .given .1) in
     let i = after-slot-asked .slot-asked .ensures ∙ ap slotAsked (after-slot-asked .before .serving-grant .ensures) in
-    let starts = after-if1 .before .before .judge-and-read .result .read .starts in
+    let starts = after-if1 .before .before .validate-and-read .result .read .starts in
     let l = sym (body-asked (a .t) (now (a .store)) s (a .write) (a .offset) _ _ g i)
-    ∙ came (λ (x : LayoutAnswer). answerOfLayout x starts) (after-if1 .before .before .judge-and-read .ensures .1)
+    ∙ by-case (λ (x : LayoutAnswer). answerOfLayout x starts) (after-if1 .before .before .validate-and-read .ensures .1)
     (c .enum-told4 .given .1) in
     absurd (body-not-refused (a .t) (now (a .store)) s (a .write) (a .offset) _ _ g l)
 
@@ -96,14 +96,14 @@ returns-5 c =
     let after-if1 = after-h .before .before .before .before .before in
     let after-slot-asked = after-if1 .before .before .before in
     let a = after-slot-asked .before .before .before .args in
-    let s = sym (after-if1 .before .before .judge-and-read .ensures .0) ∙ not-false _ (after-if1 .if1 .left) in
-    let r = came answerOfLast (after-h .before .before .before .before .request-last .ensures)
+    let s = sym (after-if1 .before .before .validate-and-read .ensures .0) ∙ not-false _ (after-if1 .if1 .left) in
+    let r = by-case answerOfRangeEnd (after-h .before .before .before .before .request-last .ensures)
     (after-h .before .before .enum-told .given .1) in
-    let g = came answerOfGrant (after-slot-asked .before .serving-grant .ensures) (after-h .h .given .1) in
+    let g = by-case answerOfGrant (after-slot-asked .before .serving-grant .ensures) (after-h .h .given .1) in
     let i = after-slot-asked .slot-asked .ensures ∙ ap slotAsked (after-slot-asked .before .serving-grant .ensures) in
-    let starts = after-if1 .before .before .judge-and-read .result .read .starts in
+    let starts = after-if1 .before .before .validate-and-read .result .read .starts in
     let l = sym (body-asked (a .t) (now (a .store)) s (a .write) (a .offset) _ _ g i)
-    ∙ came (λ (x : LayoutAnswer). answerOfLayout x starts) (after-if1 .before .before .judge-and-read .ensures .1)
+    ∙ by-case (λ (x : LayoutAnswer). answerOfLayout x starts) (after-if1 .before .before .validate-and-read .ensures .1)
     (c .before .before .before .a .given .1) in
     sym (not-served (a .write) (a .t) (now (a .store)) (a .offset) (a .len) _ _ s r
     (barred (a .write) (a .t) (a .offset) (now (a .store)) _ _ g l
@@ -116,14 +116,14 @@ piece-at-requires c κs =
     let after-if1 = after-h .before .before .before .before .before in
     let after-slot-asked = after-if1 .before .before .before in
     let a = after-slot-asked .before .before .before .args in
-    let s = sym (after-if1 .before .before .judge-and-read .ensures .0) ∙ not-false _ (after-if1 .if1 .left) in
-    let r = came answerOfLast (after-h .before .before .before .before .request-last .ensures)
+    let s = sym (after-if1 .before .before .validate-and-read .ensures .0) ∙ not-false _ (after-if1 .if1 .left) in
+    let r = by-case answerOfRangeEnd (after-h .before .before .before .before .request-last .ensures)
     (after-h .before .before .enum-told .given .1) in
-    let g = came answerOfGrant (after-slot-asked .before .serving-grant .ensures) (after-h .h .given .1) in
+    let g = by-case answerOfGrant (after-slot-asked .before .serving-grant .ensures) (after-h .h .given .1) in
     let i = after-slot-asked .slot-asked .ensures ∙ ap slotAsked (after-slot-asked .before .serving-grant .ensures) in
-    let starts = after-if1 .before .before .judge-and-read .result .read .starts in
+    let starts = after-if1 .before .before .validate-and-read .result .read .starts in
     let l = sym (body-asked (a .t) (now (a .store)) s (a .write) (a .offset) _ _ g i)
-    ∙ came (λ (x : LayoutAnswer). answerOfLayout x starts) (after-if1 .before .before .judge-and-read .ensures .1)
+    ∙ by-case (λ (x : LayoutAnswer). answerOfLayout x starts) (after-if1 .before .before .validate-and-read .ensures .1)
     (after-a .a .given .1) in
     served-limits (a .write) (a .t) (now (a .store)) (a .offset) (a .len) _ _ r
     (not-barred (a .write) (a .t) (a .offset) (now (a .store)) _ _ g l
@@ -136,14 +136,14 @@ returns-6 c =
     let after-if1 = after-h .before .before .before .before .before in
     let after-slot-asked = after-if1 .before .before .before in
     let a = after-slot-asked .before .before .before .args in
-    let s = sym (after-if1 .before .before .judge-and-read .ensures .0) ∙ not-false _ (after-if1 .if1 .left) in
-    let r = came answerOfLast (after-h .before .before .before .before .request-last .ensures)
+    let s = sym (after-if1 .before .before .validate-and-read .ensures .0) ∙ not-false _ (after-if1 .if1 .left) in
+    let r = by-case answerOfRangeEnd (after-h .before .before .before .before .request-last .ensures)
     (after-h .before .before .enum-told .given .1) in
-    let g = came answerOfGrant (after-slot-asked .before .serving-grant .ensures) (after-h .h .given .1) in
+    let g = by-case answerOfGrant (after-slot-asked .before .serving-grant .ensures) (after-h .h .given .1) in
     let i = after-slot-asked .slot-asked .ensures ∙ ap slotAsked (after-slot-asked .before .serving-grant .ensures) in
-    let starts = after-if1 .before .before .judge-and-read .result .read .starts in
+    let starts = after-if1 .before .before .validate-and-read .result .read .starts in
     let l = sym (body-asked (a .t) (now (a .store)) s (a .write) (a .offset) _ _ g i)
-    ∙ came (λ (x : LayoutAnswer). answerOfLayout x starts) (after-if1 .before .before .judge-and-read .ensures .1)
+    ∙ by-case (λ (x : LayoutAnswer). answerOfLayout x starts) (after-if1 .before .before .validate-and-read .ensures .1)
     (after-a .a .given .1) in
     is-served (a .write) (a .t) (now (a .store)) (a .offset) (a .len) _ _ _ s r
     (not-barred (a .write) (a .t) (a .offset) (now (a .store)) _ _ g l
@@ -155,12 +155,12 @@ locate-spec =
     (tie.spec
     serving-grant-requires
     slot-asked-requires
-    judge-and-read-requires
+    validate-and-read-requires
     returns
     request-last-requires
     enum-told
     enum-told-2
-    why-last-requires
+    fault-of-range-end-requires
     returns-2
     enum-known-h
     enum-told-3

@@ -3,7 +3,7 @@ use Rattle.route.proofs.RouteLaws.{read-is-missing, read-serves, rw-alo
 use Rattle.route.specs.Answers.{answerOfGrant}
 use Rattle.route.specs.Routes.{grantAt, servingGrant}
 use Rattle.segments.specs.Segments.{RW}
-use Rattle.xdr.proofs.Steps.{came}
+use Rattle.xdr.proofs.Steps.{by-case}
 use borrow.Author.Needs.{needs}
 use borrow.Author.Tests.{not-false, not-true}
 use mathlib.Core.Logic.{⊎-elim}
@@ -20,7 +20,7 @@ enum-told c = search needs
 returns : tie.Need-returns
 returns c =
     let a = c .before .before .before .before .before .args in
-    let e = came answerOfGrant (c .before .before .grant-in .ensures) (c .enum-told .given .1) in
+    let e = by-case answerOfGrant (c .before .before .grant-in .ensures) (c .enum-told .given .1) in
     c .before .before .grant-in .ensures ∙ (e ∙ sym (read-serves (a .write) (a .t) (a .x) _ (not-true _ (c .before .before .before .before .if1 .taken)) e))
 
 enum-told-2 : tie.Need-enum-told-2
@@ -34,7 +34,7 @@ returns-2 c =
     let a = c .before .before .before .args in
     let e : servingGrant (a .write) (a .t) (a .x) ≡ grantAt (a .t) RW (a .x) =
     ⊎-elim
-    (λ w. read-is-missing (a .write) (a .t) (a .x) _ (not-true _ (w .0 .taken)) (came answerOfGrant (w .2 .ensures) (w .4 .given .1)))
+    (λ w. read-is-missing (a .write) (a .t) (a .x) _ (not-true _ (w .0 .taken)) (by-case answerOfGrant (w .2 .ensures) (w .4 .given .1)))
     (λ w. rw-alone (a .write) (a .t) (a .x) (not-false _ (w .left)))
     (c .before .before .if1 .came) in
     c .grant-in2 .ensures ∙ sym e

@@ -1,10 +1,10 @@
 -- `server::handles::skip_handles` meets its contract. The loop's invariant: what is left to skip ends where all of it does.
 use Rattle.server.specs.Servers.{handlesAt}
 use Rattle.xdr.proofs.EndLaws.{first-refuses, none-end, others-end}
-use Rattle.xdr.proofs.Steps.{came, handed}
-use Rattle.xdr.specs.Answers.{resOfPart}
+use Rattle.xdr.proofs.Steps.{by-case, fault-up}
+use Rattle.xdr.specs.Answers.{parsedOfPart}
 use Rattle.xdr.specs.Items.{opaqueAt}
-use Rattle.xdr.specs.Res.{endOf}
+use Rattle.xdr.specs.Parsed.{endOf}
 use borrow.Author.Needs.{needs}
 use denote.Ref.{now}
 use mathlib.Core.Path.{_≡_, refl, _∙_}
@@ -30,8 +30,8 @@ enum-known-r c = search needs
 enum-told : tie.Need-enum-told Inv-loop μ-loop
 enum-told c = search needs
 
-why-part-requires : tie.Need-why-part-requires Inv-loop μ-loop
-why-part-requires c κs = search needs
+fault-of-part-requires : tie.Need-fault-of-part-requires Inv-loop μ-loop
+fault-of-part-requires c κs = search needs
 
 returns : tie.Need-returns Inv-loop μ-loop
 unfolding handlesAt
@@ -41,8 +41,8 @@ returns c =
     rw (
       l .inv,
       first-refuses (opaqueAt 1 128) (l .left) (now (at-loop .before .before .args .s)) (l .d .at) _ (omega arith)
-          (handed resOfPart (c .before .before .before .read-opaque .ensures) (c .before .enum-told .given .1)
-          (c .why-part .ensures) refl),
+          (fault-up parsedOfPart (c .before .before .before .read-opaque .ensures) (c .before .enum-told .given .1)
+          (c .fault-of-part .ensures) refl),
     )
 
 sub-left : tie.Need-sub-left Inv-loop μ-loop
@@ -58,7 +58,7 @@ loop-again c =
     let l = at-loop .loop in
     l .inv
     ∙ others-end (opaqueAt 1 128) (l .left) (now (at-loop .before .before .args .s)) (l .d .at) _ _ (omega arith)
-    (came resOfPart (c .before .before .before .read-opaque .ensures) (c .before .r .given .1))
+    (by-case parsedOfPart (c .before .before .before .read-opaque .ensures) (c .before .r .given .1))
 
 returns-2 : tie.Need-returns-2 Inv-loop μ-loop
 unfolding handlesAt
@@ -76,7 +76,7 @@ skip-handles-spec =
     read-opaque-requires
     enum-known-r
     enum-told
-    why-part-requires
+    fault-of-part-requires
     returns
     sub-left
     loop-less

@@ -1,5 +1,5 @@
 -- `soundness::lists::are_apart` meets its contract: neighbours overlap, have a gap between them, or touch.
-use Rattle.soundness.proofs.ListLaws.{gap, overlap, touch}
+use Rattle.soundness.proofs.SegmentLaws.{gap, overlap, touch}
 use borrow.Author.Needs.{needs}
 use mathlib.Core.Bool.{not}
 use mathlib.Core.Path.{sym, ap, _∙_}

@@ -1,5 +1,5 @@
 -- `soundness::lists::is_fit` meets its contract: the bytes are in order, and the right has a slot.
-use Rattle.reference.specs.Sound.{isFit}
+use Rattle.soundness.specs.Sound.{isFit}
 use borrow.Author.Needs.{needs}
 use borrow.Author.Tests.{le-leb, lt-leb}
 use Rattle.soundness.proofs.lists.is_fit.Statement.{statement}

@@ -1,6 +1,6 @@
 -- `soundness::lists::lists_sound` meets its contract. The loop's invariant: the lists passed are sound. The measure is how many are left.
 use Prim.Native.Nat.{_-_, _≤_}
-use Rattle.reference.specs.Sound.{segmentsSound}
+use Rattle.soundness.specs.Sound.{segmentsSound}
 use Rattle.segments.proofs.ModeLaws.{PassedTo, both-are, none-passed, one-is-not, one-more-passed}
 use Rattle.segments.specs.Segments.{Mode, segmentsFor}
 use Rattle.segments.specs.declared.Table.{Table}

@@ -3,9 +3,9 @@
 use Prim.Native.Nat.{_+_, _-_, _≤_, min}
 use Rattle.base.proofs.ListLaws.{mapped-long}
 use Rattle.lookup.proofs.LookupLaws.{length-used, next-segment, no-segment}
-use Rattle.reference.specs.Sound.{allBlank, apartFromNext, inOrder, segmentsSound}
+use Rattle.soundness.specs.Sound.{allBlank, apartFromNext, inOrder, segmentsSound}
 use Rattle.segments.specs.Segments.{blank, listOf}
-use Rattle.soundness.proofs.ListLaws.{blank-none, blank-passed}
+use Rattle.soundness.proofs.SegmentLaws.{blank-none, blank-passed}
 use borrow.Author.Needs.{needs}
 use borrow.Author.Tests.{le-leb, lt-leb, not-false, not-true}
 use lib.ListN.{drop, length}

@@ -1,6 +1,6 @@
 -- `store::lay::clear_slot` meets its contract: zeros from the slot's start on are the empty slot.
 use Prim.Native.Nat.{ℕ}
-use Rattle.buffers.specs.Buffers.{stored}
+use Rattle.bytes.specs.Buffers.{stored}
 use Rattle.store.proofs.LayLaws.{cleared}
 use borrow.Author.Needs.{needs}
 use denote.Ref.{now}

@@ -1,5 +1,5 @@
 -- `store::slot::holds_body` meets its contract: a slot that no segment names holds nothing.
-use Rattle.numbers.specs.Numbers.{sameBytes}
+use Rattle.bytes.specs.Numbers.{sameBytes}
 use Rattle.store.specs.Store.{bodyIn}
 use borrow.Author.Needs.{needs}
 use borrow.Author.Tests.{not-false, not-true}

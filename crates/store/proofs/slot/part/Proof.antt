@@ -1,6 +1,6 @@
 -- `store::slot::part` meets its contract: the bytes wanted, cut off where the slice ends.
 use Prim.Native.Nat.{_+_, _-_}
-use Rattle.numbers.proofs.NumberLaws.{fewer-left, none-left}
+use Rattle.bytes.proofs.NumberLaws.{fewer-left, none-left}
 use borrow.Author.Needs.{needs}
 use denote.Ref.{now}
 use lib.ListN.{length}

@@ -1,6 +1,6 @@
 -- `store::slot::slot_body` meets its contract: as many bytes behind the kind as the length says.
 use Prim.Native.Nat.{ℕ}
-use Rattle.numbers.specs.Numbers.{bytesFrom}
+use Rattle.bytes.specs.Numbers.{bytesFrom}
 use Rattle.store.specs.Store.{bodyIn}
 use borrow.Author.Needs.{needs}
 use denote.Ref.{now}

@@ -1,6 +1,6 @@
 -- `store::slot::slot_bytes` meets its contract: 4,096 bytes from the slot's start.
 use Prim.Native.Nat.{ℕ}
-use Rattle.numbers.specs.Numbers.{bytesFrom}
+use Rattle.bytes.specs.Numbers.{bytesFrom}
 use borrow.Author.Needs.{needs}
 use denote.Ref.{now}
 use mathlib.Core.Path.{ap, _∙_}

@@ -1,4 +1,4 @@
--- `table_cases::store_case::checksum` is safe and ends. The sum stays below its modulus, and each turn leaves fewer bytes.
+-- `table_cases::store_case::checksum` is safe and ends. The sum stays below its modulus, and each step leaves fewer bytes.
 use Prim.Native.Nat.{_-_, _<_}
 use borrow.Author.Needs.{needs}
 use lib.ListN.{length}

@@ -1,6 +1,6 @@
 -- `wire_cases::form::is_report_write` meets its contract: the output's length, the list's length, then the payload's.
-use Rattle.numbers.specs.Numbers.{leAt}
-use Rattle.wire_cases.specs.Forms.{isReportWrite, listAt, listEnds}
+use Rattle.bytes.specs.Numbers.{leAt}
+use Rattle.wire_cases.specs.Forms.{isReportWrite, errorListAt, listEnds}
 use borrow.Author.Needs.{needs}
 use borrow.Author.Tests.{le-leb, lt-leb}
 use denote.Ref.{now}
@@ -19,8 +19,8 @@ returns c = rw (lt-leb (leAt 4 (now (c .before .before .before .args .payload)) 
 le4-requires-2 : tie.Need-le4-requires-2
 le4-requires-2 c κs = search needs
 
-list-at-requires : tie.Need-list-at-requires
-list-at-requires c κs = search needs
+error-list-at-requires : tie.Need-error-list-at-requires
+error-list-at-requires c κs = search needs
 
 le4-requires-3 : tie.Need-le4-requires-3
 le4-requires-3 c κs = search needs
@@ -30,11 +30,11 @@ unfolding isReportWrite listEnds
 returns-2 c =
     let after-le4 = c .before .before .before .before .before in
     let s = now (after-le4 .before .before .args .payload) in
-    let place : c .before .before .list-at .result ≡ listAt (leAt 4 s 4) =
-    c .before .before .list-at .ensures .0 ∙ ap listAt (c .before .before .before .le42 .ensures) in
+    let offset : c .before .before .error-list-at .result ≡ errorListAt (leAt 4 s 4) =
+    c .before .before .error-list-at .ensures .0 ∙ ap errorListAt (c .before .before .before .le42 .ensures) in
     rw (
       le-leb (leAt 4 s 0) 4096 (omega (arith, after-le4 .le4 .ensures)),
-      sym place,
+      sym offset,
       sym (c .before .le43 .ensures),
       lt-leb _ 128 (c .if2 .taken),
     )
@@ -56,11 +56,11 @@ unfolding isReportWrite listEnds
 returns-3 c =
     let after-le4 = c .before .before .before .before .before in
     let s = now (after-le4 .before .before .args .payload) in
-    let place : c .before .before .list-at .result ≡ listAt (leAt 4 s 4) =
-    c .before .before .list-at .ensures .0 ∙ ap listAt (c .before .before .before .le42 .ensures) in
+    let offset : c .before .before .error-list-at .result ≡ errorListAt (leAt 4 s 4) =
+    c .before .before .error-list-at .ensures .0 ∙ ap errorListAt (c .before .before .before .le42 .ensures) in
     rw (
       le-leb (leAt 4 s 0) 4096 (omega (arith, after-le4 .le4 .ensures)),
-      sym place,
+      sym offset,
       sym (c .before .le43 .ensures),
       le-leb _ 128 (c .if2 .left),
     )
@@ -72,7 +72,7 @@ is-report-write-spec =
     le4-requires
     returns
     le4-requires-2
-    list-at-requires
+    error-list-at-requires
     le4-requires-3
     returns-2
     add-result

@@ -1,9 +1,9 @@
 -- `xdr::item::read_bool` meets its contract: four bytes, then the value.
 use Rattle.base.specs.Answer.{pick}
-use Rattle.xdr.proofs.Steps.{came, handed}
-use Rattle.xdr.specs.Answers.{resOfU32}
+use Rattle.xdr.proofs.Steps.{by-case, fault-up}
+use Rattle.xdr.specs.Answers.{parsedOfU32}
 use Rattle.xdr.specs.Items.{boolAt}
-use Rattle.xdr.specs.Res.{then}
+use Rattle.xdr.specs.Parsed.{then}
 use borrow.Author.Needs.{needs}
 use borrow.Author.Tests.{le-leb, lt-leb}
 use mathlib.Core.Path.{refl}
@@ -19,20 +19,20 @@ enum-known-r c = search needs
 enum-told : tie.Need-enum-told
 enum-told c = search needs
 
-why-u32-requires : tie.Need-why-u32-requires
-why-u32-requires c κs = search needs
+fault-of-u32-requires : tie.Need-fault-of-u32-requires
+fault-of-u32-requires c κs = search needs
 
 returns : tie.Need-returns
 unfolding boolAt then
-returns c = rw (handed resOfU32 (c .before .before .before .read-u32 .ensures) (c .before .enum-told .given .1) (c .why-u32 .ensures) refl)
+returns c = rw (fault-up parsedOfU32 (c .before .before .before .read-u32 .ensures) (c .before .enum-told .given .1) (c .fault-of-u32 .ensures) refl)
 
 returns-2 : tie.Need-returns-2
 unfolding boolAt then pick
-returns-2 c = rw (came resOfU32 (c .before .before .before .before .read-u32 .ensures) (c .before .before .r .given .1), lt-leb _ _ (c .if1 .taken))
+returns-2 c = rw (by-case parsedOfU32 (c .before .before .before .before .read-u32 .ensures) (c .before .before .r .given .1), lt-leb _ _ (c .if1 .taken))
 
 returns-3 : tie.Need-returns-3
 unfolding boolAt then pick
-returns-3 c = rw (came resOfU32 (c .before .before .before .before .read-u32 .ensures) (c .before .before .r .given .1), le-leb _ _ (c .if1 .left))
+returns-3 c = rw (by-case parsedOfU32 (c .before .before .before .before .read-u32 .ensures) (c .before .before .r .given .1), le-leb _ _ (c .if1 .left))
 
 pub read-bool-spec : {M : Type 1} → statement M
 read-bool-spec =
@@ -41,7 +41,7 @@ read-bool-spec =
     read-u32-requires
     enum-known-r
     enum-told
-    why-u32-requires
+    fault-of-u32-requires
     returns
     returns-2
     returns-3)

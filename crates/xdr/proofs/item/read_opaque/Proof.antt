@@ -1,8 +1,8 @@
 -- `xdr::item::read_opaque` meets its contract: the length, then the bytes.
-use Rattle.xdr.proofs.Steps.{came, handed}
-use Rattle.xdr.specs.Answers.{resOfU32}
+use Rattle.xdr.proofs.Steps.{by-case, fault-up}
+use Rattle.xdr.specs.Answers.{parsedOfU32}
 use Rattle.xdr.specs.Items.{opaqueAt}
-use Rattle.xdr.specs.Res.{then}
+use Rattle.xdr.specs.Parsed.{then}
 use borrow.Author.Needs.{needs}
 use mathlib.Core.Path.{refl}
 use Rattle.xdr.proofs.item.read_opaque.Statement.{statement}
@@ -17,12 +17,12 @@ enum-known-r c = search needs
 enum-told : tie.Need-enum-told
 enum-told c = search needs
 
-why-u32-requires : tie.Need-why-u32-requires
-why-u32-requires c κs = search needs
+fault-of-u32-requires : tie.Need-fault-of-u32-requires
+fault-of-u32-requires c κs = search needs
 
 returns : tie.Need-returns
 unfolding opaqueAt then
-returns c = rw (handed resOfU32 (c .before .before .before .read-count .ensures) (c .before .enum-told .given .1) (c .why-u32 .ensures) refl)
+returns c = rw (fault-up parsedOfU32 (c .before .before .before .read-count .ensures) (c .before .enum-told .given .1) (c .fault-of-u32 .ensures) refl)
 
 cast-read-bytes : tie.Need-cast-read-bytes
 cast-read-bytes c = search needs
@@ -32,7 +32,7 @@ read-bytes-requires c κs = search needs
 
 returns-2 : tie.Need-returns-2
 unfolding opaqueAt then
-returns-2 c = rw (came resOfU32 (c .before .before .before .before .read-count .ensures) (c .before .before .r .given .1)) (c .read-bytes .ensures)
+returns-2 c = rw (by-case parsedOfU32 (c .before .before .before .before .read-count .ensures) (c .before .before .r .given .1)) (c .read-bytes .ensures)
 
 pub read-opaque-spec : {M : Type 1} → statement M
 read-opaque-spec =
@@ -41,7 +41,7 @@ read-opaque-spec =
     read-count-requires
     enum-known-r
     enum-told
-    why-u32-requires
+    fault-of-u32-requires
     returns
     cast-read-bytes
     read-bytes-requires

@@ -1,0 +1,2 @@
+pub mod TableRecords
+pub mod Answers

@@ -1,0 +1,4 @@
+pub mod LayoutResults
+pub mod DeviceResults
+pub mod BindResults
+pub mod ReportResults

@@ -1,1 +1,0 @@
-// The events agree with the reference model: an edited list is the list worked out afresh, and each call is the model's step. Laws, no code.

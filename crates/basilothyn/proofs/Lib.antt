@@ -1,0 +1,5 @@
+pub mod CallLaws
+pub mod RecordUnchanged
+pub mod RecordDemand
+pub mod WriteReportLaws
+pub mod FieldArray

@@ -1,0 +1,11 @@
+pub mod ModelSlotLaws
+pub mod SlotRights
+pub mod ModelLaws
+pub mod Bodies
+pub mod Inv
+pub mod Decode
+pub mod CommandLaws
+pub mod FromStep
+pub mod ShortFiles
+pub mod Examples
+pub mod StandIns

@@ -1,3 +1,0 @@
-pub mod Netids
-pub mod Addresses
-pub mod Answers

@@ -1,4 +1,0 @@
-pub mod NumberLaws
-pub mod SameLaws
-pub mod ZeroLaws
-pub mod Standing

@@ -1,0 +1,14 @@
+pub mod Changed
+pub mod PushShows
+pub mod PartsShow
+pub mod EditShows
+pub mod WholeEdits
+pub mod TestLaws
+pub mod EditLaws
+pub mod RightLaws
+pub mod StoreUpdates
+pub mod UpdateLaws
+pub mod Demand
+pub mod AnyTable
+pub mod Unchanged
+pub mod WholeFile

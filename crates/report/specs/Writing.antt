@@ -1,0 +1,112 @@
+-- Error reports, ff_layoutreturn4 of RFC 8435, 9.3, written: what is judged, in which order, and the bytes of the
+-- body.
+use Prim.Native.Nat.{ℕ, zero, suc, _+_}
+use mathlib.Core.List.{List, [], _∷_, _++_}
+use mathlib.Core.Bool.{Bool, true, _&&_}
+use lib.ListN.{length, take, drop}
+use lib.Dec.{leb, eqb}
+use Rattle.base.specs.Answer.{Answer, accepted, refused, given, pick}
+use Rattle.base.specs.Limits.{deviceIdSize, errorSize, mostErrors, mostReports, stateidSize}
+use Rattle.base.specs.Ranges.{rangeLast}
+use Rattle.bytes.specs.Numbers.{bytesFrom, beAt, beBytes}
+use Rattle.report.specs.Reports.{errorFits, errorOperationOffset, errorStatusOffset}
+use Rattle.report.specs.declared.ReportHead.{ReportHead}
+
+-- one of the errors to be written
+pub record ErrorEntry : Type 0 where
+  pub device : List ℕ
+  pub status : ℕ
+  pub operation : ℕ
+
+-- the entry whose 24 bytes stand at a place. A number that is not there whole is 0: a entry that is not there whole
+-- is never allowed.
+unfoldable pub entryHere : List ℕ → ℕ → ErrorEntry
+entryHere s at = record {
+  device = bytesFrom deviceIdSize s at;
+  status = beAt 4 s (at + errorStatusOffset);
+  operation = beAt 4 s (at + errorOperationOffset);
+}
+
+-- the n entries from a place on
+unfoldable pub entriesAt : ℕ → List ℕ → ℕ → List ErrorEntry
+entriesAt zero s at = []
+entriesAt (suc n) s at = entryHere s at ∷ entriesAt n s (at + errorSize)
+
+-- ---- what an array of heads has by its type
+
+-- each stateid has 16 bytes
+unfoldable pub stateidsWhole : List ReportHead → Bool
+stateidsWhole [] = true
+stateidsWhole (h ∷ hs) = eqb (length (h .stateid)) stateidSize && stateidsWhole hs
+
+-- ---- what is judged
+
+-- "the counts together must be the list's length"
+unfoldable pub counts : List ReportHead → ℕ
+counts [] = 0
+counts (h ∷ hs) = h .errors + counts hs
+
+-- "an error's operation is not 5, 25 or 38 .., or its status is 0" of none of them
+unfoldable pub allFit : List ErrorEntry → Bool
+allFit [] = true
+allFit (e ∷ es) = errorFits (e .status) (e .operation) && allFit es
+
+-- a report and its errors: the range, the error count (1 to 16), each error
+unfoldable pub checkedReport : ReportHead → List ErrorEntry → Answer (Unit {0})
+checkedReport h es =
+    given (rangeLast (h .offset) (h .length)) λ last.
+    pick (leb 1 (h .errors) && leb (h .errors) mostErrors)
+    (pick (allFit es) (accepted tt) (refused 27))
+    (refused 8)
+
+-- "then reports in order": the errors of the list go to the reports by their counts
+unfoldable pub checkedReports : List ReportHead → List ErrorEntry → Answer (Unit {0})
+checkedReports [] es = accepted tt
+checkedReports (h ∷ hs) es = given (checkedReport h (take (h .errors) es)) λ u. checkedReports hs (drop (h .errors) es)
+
+-- ---- the bytes
+
+-- "errors of device id, status, operation"
+unfoldable pub errorBytes : ErrorEntry → List ℕ
+errorBytes e = e .device ++ (beBytes 4 (e .status) ++ beBytes 4 (e .operation))
+
+unfoldable pub errorsBytes : List ErrorEntry → List ℕ
+errorsBytes [] = []
+errorsBytes (e ∷ es) = errorBytes e ++ errorsBytes es
+
+-- "A report: offset, length .., stateid, error count"
+unfoldable pub headBytes : ReportHead → List ℕ
+headBytes h = beBytes 8 (h .offset) ++ (beBytes 8 (h .length) ++ (h .stateid ++ beBytes 4 (h .errors)))
+
+-- each report's head, then as many errors of the list as its count says
+unfoldable pub reportsBytes : List ReportHead → List ErrorEntry → List ℕ
+reportsBytes [] es = []
+reportsBytes (h ∷ hs) es = headBytes h ++ (errorsBytes (take (h .errors) es) ++ reportsBytes hs (drop (h .errors) es))
+
+-- "Report count (0 to 8), reports", then the bytes z of what follows them
+unfoldable pub bodyBytes : List ReportHead → List ErrorEntry → List ℕ → List ℕ
+bodyBytes hs es z = beBytes 4 (length hs) ++ (reportsBytes hs es ++ z)
+
+-- ---- the whole
+
+-- "the output is too short"
+unfoldable pub fitted : List ℕ → ℕ → Answer (List ℕ)
+fitted bs room = pick (leb (length bs) room) (accepted bs) (refused 26)
+
+-- "In writing, too many reports come first (8), then a list of another length (8), then reports in order, then 26."
+unfoldable pub bodyWritten : ℕ → List ReportHead → List ErrorEntry → List ℕ → ℕ → Answer (List ℕ)
+bodyWritten count heads es z room =
+    pick (leb count mostReports)
+    (pick (eqb (counts (take count heads)) (length es))
+    (given (checkedReports (take count heads) es) λ u. fitted (bodyBytes (take count heads) es z) room)
+    (refused 8))
+    (refused 8)
+
+-- "then a statistics count that must be 0": nothing else follows the reports
+unfoldable pub reportsWritten : ℕ → List ReportHead → List ErrorEntry → ℕ → Answer (List ℕ)
+reportsWritten count heads es room = bodyWritten count heads es (beBytes 4 0) room
+
+-- "Bytes of the output beyond the body stay"; a refusal "changes nothing lent"
+unfoldable pub outputAfter : List ℕ → Answer (List ℕ) → List ℕ
+outputAfter l (accepted bs) = bs ++ drop (length bs) l
+outputAfter l (refused n) = l

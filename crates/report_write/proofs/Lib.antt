@@ -1,5 +1,0 @@
-pub mod RecordLaws
-pub mod StoringLaws
-pub mod Written
-pub mod ReadBack
-pub mod RoundTrip

@@ -1,4 +1,0 @@
-pub mod Layouts
-pub mod Devices
-pub mod Bindings
-pub mod Reports
