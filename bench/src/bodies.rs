@@ -2,7 +2,7 @@
 
 use independent::samples::bodies::{LayoutPlan, ServerPlan};
 
-/// The body of a captured layout4 starts behind 28 bytes.
+/// The body of a captured layout4 starts after 28 bytes.
 const BODY: usize = 28;
 const ONE_MIRROR: &[u8] = include_bytes!("../../captures/stock/A1_v42_ipv4_lg000_0.bin");
 const THREE_MIRRORS: &[u8] = include_bytes!("../../captures/patched-server/P2_3mirrors_multi_lg000_0.bin");

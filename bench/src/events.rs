@@ -48,7 +48,7 @@ fn on_segments(held: &Held) -> Vec<Trial<'_>> {
     };
     vec![
         Trial::kept(held, "grant of a held range", grant(first, STEP), 0),
-        Trial::changing(held, "grant behind a segment", grant(first + STEP, STEP / 2)),
+        Trial::changing(held, "grant after a segment", grant(first + STEP, STEP / 2)),
         Trial::changing(held, returned.0, Event::Return(returned.1)),
         Trial::changing(held, recalled.0, Event::Recall(recalled.1)),
     ]

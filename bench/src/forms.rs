@@ -55,9 +55,9 @@ pub fn plain_location(table: &Table, store: &[u8], request: &IoRequest) -> Resul
     })
 }
 
-/// The counts are those of the places before the first blank one.
+/// The counts are those of the entries before the first blank one.
 pub fn core_form(table: &Table) -> TableRecord {
-    let places = |iomode| table.places(iomode).each_ref().map(core_segment);
+    let places = |iomode| table.entries(iomode).each_ref().map(core_segment);
     let count = |iomode| table.segments(iomode).len() as u64;
     TableRecord {
         read: places(Iomode::Read),
@@ -78,7 +78,7 @@ fn core_segment(segment: &Segment) -> SegmentRecord {
 
 pub fn tuned_form(table: &Table) -> tuned::table::Table {
     let list = |iomode| tuned::table::Segments {
-        places: table.places(iomode).each_ref().map(tuned_segment),
+        entries: table.entries(iomode).each_ref().map(tuned_segment),
         count: table.segments(iomode).len(),
     };
     tuned::table::Table { read: list(Iomode::Read), rw: list(Iomode::ReadWrite) }

@@ -9,7 +9,7 @@ use independent::samples::bodies::Layout4Head;
 use independent::state::State;
 use independent::table::Table;
 
-/// Segment i has the bytes from 2 i STEP on, and as many are free behind it.
+/// Segment i has the bytes from 2 i STEP on, and as many are free after it.
 pub const STEP: u64 = 1_000_000;
 
 /// One table in three forms, and its store.

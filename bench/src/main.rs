@@ -28,7 +28,7 @@ fn main() -> ExitCode {
             return ExitCode::FAILURE;
         }
     }
-    say_what_is_measured();
+    print_what_is_measured();
     Row::print_head();
     let layouts = wire::layouts();
     wire::device();
@@ -47,7 +47,7 @@ fn main() -> ExitCode {
     ExitCode::SUCCESS
 }
 
-fn say_what_is_measured() {
+fn print_what_is_measured() {
     let (rounds, round) = (clock::ROUNDS, clock::ROUND.as_millis());
     println!(
         "A time is the shortest of a call in any of {rounds} rounds of {round} ms; in each round all rivals take turns. What counts is the ratio.

@@ -32,7 +32,7 @@ impl<'a> Race<'a> {
         self
     }
 
-    /// The tuned Rust behind the core's boundary.
+    /// The tuned Rust with the core's boundary.
     pub fn by_value<T>(mut self, work: impl FnMut() -> T + 'a) -> Self {
         self.by_value = Some(turn(work));
         self

@@ -110,12 +110,12 @@ impl Both {
                 let expected = plain_location(&self.state.table, &self.state.store[..self.borrowed], request);
                 same("the lookup's answer", expected, answered)?;
             }
-            TableCase::SetByte { place, value } => {
-                self.state.set_byte(*place, *value);
-                self.store[*place] = *value;
+            TableCase::SetByte { offset, value } => {
+                self.state.set_byte(*offset, *value);
+                self.store[*offset] = *value;
             }
-            TableCase::SetSegment { iomode, place, segment } => {
-                self.state.set_segment(*iomode, *place, *segment);
+            TableCase::SetSegment { iomode, index, segment } => {
+                self.state.set_segment(*iomode, *index, *segment);
                 self.table = tuned_form(&self.state.table);
             }
             TableCase::SetBorrowed(length) => {

@@ -246,7 +246,7 @@ mod tests {
     #[test]
     fn the_state_is_kept_from_case_to_case() {
         let mut file = CaseFileWriter::default();
-        let place = TableCase::SetByte { place: 0, value: 1 };
+        let place = TableCase::SetByte { offset: 0, value: 1 };
         let revoke = TableCase::Event(Event::Revoke);
         for case in [&place, &revoke, &TableCase::Reset, &revoke] {
             file.table(case);

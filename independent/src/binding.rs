@@ -53,7 +53,7 @@ pub enum Identity {
     Loose { user: Extent, group: Extent },
 }
 
-/// How to reach the server; places are counted from the layout body's first
+/// How to reach the server; offsets are counted from the layout body's first
 /// byte.
 #[derive(Clone, Copy, Debug, PartialEq, Eq)]
 pub struct Binding {
@@ -76,7 +76,7 @@ pub fn bind(request: &BindRequest) -> Result<Binding, Refusal> {
     Ok(Binding {
         entry_number,
         entry: *entry,
-        // Check 13 has made the two counts equal, so there is one at its place.
+        // Check 13 has made the two counts equal, so there is one at its index.
         filehandle: server.filehandles[entry_number],
         identity: identity_of(&server, entry),
     })

@@ -39,7 +39,7 @@ pub enum Case<'a> {
 }
 
 /// A case of writing reports. `report_count` may be more than the reports that
-/// stand in the payload, of which there are at most 8.
+/// are in the payload, of which there are at most 8.
 #[derive(Clone, Debug, Default, PartialEq, Eq)]
 pub struct ReportWrite {
     pub output_length: usize,
@@ -48,7 +48,7 @@ pub struct ReportWrite {
     pub errors: Vec<DeviceError>,
 }
 
-/// How a case file ends; the number is a place in the file.
+/// How a case file ends; the number is an offset in the file.
 #[derive(Clone, Copy, Debug, PartialEq, Eq)]
 pub enum Ending {
     /// Every record was read; the file's length.

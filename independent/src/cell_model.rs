@@ -73,7 +73,7 @@ impl CellModel {
         for right in &mut covered {
             **right = BodyRight::Granted(body.to_vec());
         }
-        self.slots.place(body)
+        self.slots.store_body(body)
     }
 
     fn recall(&mut self, numbers: &RangeNumbers) -> Result<(), Refusal> {

@@ -43,7 +43,7 @@ impl NetidClass {
     }
 }
 
-/// One network address: the class of its netid, and where its text stands.
+/// One network address: the class of its netid, and where its text is.
 #[derive(Clone, Copy, Debug, Default, PartialEq, Eq)]
 pub struct Address {
     pub class: NetidClass,

@@ -22,7 +22,7 @@ pub const NO_READ_IO: u32 = 4;
 /// FF_FLAGS_WRITE_ONE_MIRROR: "write one mirror"
 pub const WRITE_ONE_MIRROR: u32 = 8;
 /// One place for each mirror and stripe that the limits allow.
-pub const START_PLACES: usize = (MIRROR_LIMIT * SERVER_LIMIT) as usize;
+pub const START_ENTRIES: usize = (MIRROR_LIMIT * SERVER_LIMIT) as usize;
 
 /// "The reader's summary says where each server starts, by mirror and by
 /// stripe, as byte offsets from the body's first byte, with 0 in unused
@@ -34,7 +34,7 @@ pub struct LayoutSummary {
     pub servers: u32,
     pub flags: u32,
     pub hint: u32,
-    pub starts: [u16; START_PLACES],
+    pub starts: [u16; START_ENTRIES],
 }
 
 impl LayoutSummary {
@@ -47,7 +47,7 @@ impl LayoutSummary {
     }
 }
 
-/// One data server of a layout; places are counted from the body's first byte.
+/// One data server of a layout; offsets are counted from the body's first byte.
 #[derive(Clone, Copy, Debug, PartialEq, Eq)]
 pub struct Server {
     pub device_id: [u8; 16],
@@ -69,7 +69,7 @@ pub fn read_layout_body(body: &[u8]) -> Result<LayoutSummary, Refusal> {
     let mut cursor = Cursor::new(body);
     let unit = cursor.uhyper()?;
     let mirrors = cursor.count(1..=MIRROR_LIMIT)?;
-    let mut starts = [0; START_PLACES];
+    let mut starts = [0; START_ENTRIES];
     let servers = read_server_count(&mut cursor)?;
     check_unit(unit, servers)?;
     read_servers(&mut cursor, 0, servers, &mut starts)?;
@@ -113,11 +113,11 @@ fn read_servers(
     cursor: &mut Cursor,
     mirror: u32,
     servers: u32,
-    starts: &mut [u16; START_PLACES],
+    starts: &mut [u16; START_ENTRIES],
 ) -> Result<(), Refusal> {
     for stripe in 0..servers {
         // A place in a body of at most 4,090 bytes fits 16 bits.
-        starts[start_index(mirror, stripe)] = cursor.place() as u16;
+        starts[start_index(mirror, stripe)] = cursor.offset() as u16;
         read_server(cursor)?;
     }
     Ok(())
@@ -129,7 +129,7 @@ fn read_servers(
 fn read_server(cursor: &mut Cursor) -> Result<Server, Refusal> {
     let device_id = cursor.fixed()?;
     let efficiency = cursor.uint()?;
-    let stateid = Extent { start: cursor.place(), length: 16 };
+    let stateid = Extent { start: cursor.offset(), length: 16 };
     cursor.take(16)?;
     let filehandle_count = cursor.count(1..=FILEHANDLE_LIMIT)?;
     let mut filehandles = [Extent::default(); FILEHANDLE_LIMIT as usize];
@@ -219,7 +219,7 @@ mod tests {
         let server = read_server_at(&plan.encode().bytes, 72).unwrap();
         assert_eq!(server.device_id, plan.mirrors[0][1].device_id);
         assert_eq!(server.efficiency, 5);
-        // Efficiency 16 bytes behind the start, stateid 20, filehandles from 44.
+        // Efficiency 16 bytes after the start, stateid 20, filehandles from 44.
         assert_eq!(server.stateid, Extent { start: 92, length: 16 });
         assert_eq!(server.filehandle_count, 2);
         assert_eq!(server.filehandles[0], Extent { start: 116, length: 2 });

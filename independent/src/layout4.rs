@@ -8,7 +8,7 @@ use crate::xdr::{require_zero_padding, Cursor};
 
 /// LAYOUT4_FLEX_FILES: "layout type (4, must be 4)"
 pub const FLEX_FILES: u32 = 4;
-/// Where the body starts in a `layout4`: 8 + 8 + 4 + 4 + 4 bytes stand before it.
+/// Where the body starts in a `layout4`: 8 + 8 + 4 + 4 + 4 bytes are before it.
 pub const BODY_IN_LAYOUT4: usize = 28;
 
 /// A `layout4` and the summary of its body, whose starts are counted from the
@@ -98,7 +98,7 @@ mod tests {
     #[test]
     fn a_grant_takes_read_or_rw() {
         let with = |iomode| Layout4Head { iomode, layout_type: 1, ..Layout4Head::whole_file() };
-        // Layout type 1 is met behind the iomode.
+        // Layout type 1 is met after the iomode.
         for (iomode, expected) in [(0, 3), (1, 4), (2, 4), (3, 3), (4, 3), (u32::MAX, 3)] {
             assert_eq!(refusal(&with(iomode).around(&smallest_body())), Some(expected));
         }
@@ -115,7 +115,7 @@ mod tests {
         assert_eq!(refusal(&head.claiming(0, &[])), Some(1));
         // The body runs out in its own length although bytes follow.
         assert_eq!(refusal(&head.claiming(76, &body)), Some(1));
-        // Bytes are left over in the body's own length, then behind it.
+        // Bytes are left over in the body's own length, then after it.
         assert_eq!(refusal(&head.claiming(84, &extended(&body, &[0; 4]))), Some(2));
         assert_eq!(refusal(&head.claiming(80, &extended(&body, &[0]))), Some(2));
         // The body is judged before its padding.

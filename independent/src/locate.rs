@@ -22,7 +22,7 @@ pub struct Location {
     pub stripe: u32,
     /// "The offset on the server is the file offset."
     pub offset: u64,
-    /// The bytes that the answer is good for; a longer request goes on behind
+    /// The bytes that the answer is good for; a longer request goes on after
     /// them with another one.
     pub length: u64,
     /// Bit 0 is mirror 0.

@@ -62,7 +62,7 @@ impl Model {
             return Err(Refusal::Recalled);
         }
         let mut after = self.clone();
-        after.slots.place(body)?;
+        after.slots.store_body(body)?;
         after.change(iomode, range, |right| *right = BodyRight::Granted(body.to_vec()));
         Ok(after)
     }

@@ -50,7 +50,7 @@ pub struct ModelSlots {
 impl ModelSlots {
     /// "A granted body in no slot takes the lowest empty one", or 24 where
     /// there is none.
-    pub fn place(&mut self, body: &[u8]) -> Result<(), Refusal> {
+    pub fn store_body(&mut self, body: &[u8]) -> Result<(), Refusal> {
         if self.number_of(body).is_some() {
             return Ok(());
         }

@@ -9,7 +9,7 @@ use crate::xdr::Cursor;
 pub const REPORT_LIMIT: u32 = 8;
 /// "error count (1 to 16)"
 pub const ERROR_LIMIT: u32 = 16;
-/// Report count and statistics count, which stand in every body.
+/// Report count and statistics count, which are in every body.
 const FRAME_SIZE: usize = 4 + 4;
 /// Offset, length, stateid and error count.
 const HEAD_SIZE: usize = 8 + 8 + 16 + 4;
@@ -24,7 +24,7 @@ pub struct DeviceError {
     pub operation: u32,
 }
 
-/// A report without its errors, which stand in a list of their own.
+/// A report without its errors, which are in a list of their own.
 #[derive(Clone, Copy, Debug, Default, PartialEq, Eq)]
 pub struct ReportHead {
     pub offset: u64,
@@ -252,7 +252,7 @@ mod tests {
     fn an_error_is_judged_when_all_three_are_read() {
         let wire = encode_reports(&[ReportPlan::with_errors(1, 1)], 0);
         let no_status = wire.with_uint(Item::Status, 0, 0);
-        let operation = wire.places(Item::Operation)[0];
+        let operation = wire.offsets(Item::Operation)[0];
         assert_eq!(refusal(&no_status[..operation + 3]), Some(1));
         assert_eq!(refusal(&no_status[..operation + 4]), Some(27));
     }

@@ -34,7 +34,7 @@ impl Right {
     }
 }
 
-/// Bytes of one right, the last one included. The default is a blank place of
+/// Bytes of one right, the last one included. The default is a blank entry of
 /// a table.
 #[derive(Clone, Copy, Debug, Default, PartialEq, Eq, Hash)]
 pub struct Segment {
@@ -57,7 +57,7 @@ impl Segment {
         self.first <= range.last && range.first <= self.last
     }
 
-    /// Whether the other segment starts on the byte behind this one.
+    /// Whether the other segment starts on the byte after this one.
     pub fn touches(&self, behind: &Segment) -> bool {
         self.last.checked_add(1) == Some(behind.first)
     }

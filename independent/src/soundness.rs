@@ -23,7 +23,7 @@ fn list_is_sound(table: &Table, iomode: Iomode) -> bool {
     let segments = table.segments(iomode);
     segments.iter().all(segment_is_sound)
         && segments.windows(2).all(|pair| neighbours_are_sound(&pair[0], &pair[1]))
-        && table.places(iomode)[segments.len()..].iter().all(Segment::is_blank)
+        && table.entries(iomode)[segments.len()..].iter().all(Segment::is_blank)
 }
 
 fn segment_is_sound(segment: &Segment) -> bool {
@@ -94,7 +94,7 @@ mod tests {
         assert!(with_place(1, 10, 19, Recalled(1)));
         assert!(with_place(1, 11, 18, Granted(0)));
         assert!(with_place(1, 15, 15, Granted(0)));
-        // First behind last, over a neighbour, no right, no slot of that number.
+        // First after last, over a neighbour, no right, no slot of that number.
         assert!(!with_place(1, 15, 14, Recalled(0)));
         assert!(!with_place(1, 9, 19, Recalled(0)));
         assert!(!with_place(1, 10, 20, Recalled(0)));
@@ -104,7 +104,7 @@ mod tests {
         // Touching with the same right, on either side.
         assert!(!with_place(1, 10, 18, Granted(0)));
         assert!(!with_place(1, 11, 19, Granted(0)));
-        // Byte 0 is not behind the last byte.
+        // Byte 0 is not after the last byte.
         assert!(!with_place(4, 0, 0, Granted(0)));
     }
 
@@ -126,7 +126,7 @@ mod tests {
         assert!(!with_byte(3, 1));
         assert!(!with_byte(4, 5));
         assert!(!with_byte(5, 4));
-        // The mirror count; an unknown flag bit; the zeros behind the body.
+        // The mirror count; an unknown flag bit; the zeros after the body.
         assert!(!with_byte(6 + 11, 2));
         assert!(!with_byte(behind - 5, 16));
         assert!(!with_byte(behind, 1) && !with_byte(4_095, 1));

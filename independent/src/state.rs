@@ -48,16 +48,16 @@ impl State {
         self.borrowed = length.min(STORE_LENGTH);
     }
 
-    /// Overwrites a byte of the store; a place behind its end is none.
-    pub fn set_byte(&mut self, place: usize, value: u8) {
-        if let Some(byte) = self.store.get_mut(place) {
+    /// Overwrites a byte of the store; an offset after its end is none.
+    pub fn set_byte(&mut self, offset: usize, value: u8) {
+        if let Some(byte) = self.store.get_mut(offset) {
             *byte = value;
         }
     }
 
-    /// Overwrites a place of the table; the 33rd is none.
-    pub fn set_segment(&mut self, iomode: Iomode, place: usize, segment: Segment) {
-        if let Some(kept) = self.table.place_mut(iomode, place) {
+    /// Overwrites an entry of the table; the 33rd is none.
+    pub fn set_segment(&mut self, iomode: Iomode, index: usize, segment: Segment) {
+        if let Some(kept) = self.table.entry_mut(iomode, index) {
             *kept = segment;
         }
     }

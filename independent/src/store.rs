@@ -11,7 +11,7 @@ pub const SLOT_COUNT: usize = 8;
 pub const SLOT_LENGTH: usize = 4_096;
 /// "a lent buffer of 32,768 bytes"
 pub const STORE_LENGTH: usize = SLOT_COUNT * SLOT_LENGTH;
-/// Length and kind stand before the body.
+/// Length and kind are before the body.
 pub const BODY_IN_SLOT: usize = 6;
 
 /// The slots of a store, front to back.

@@ -8,39 +8,39 @@ use crate::store::SLOT_COUNT;
 /// "at most 32 an iomode"
 pub const SEGMENT_LIMIT: usize = 32;
 
-/// The places of one iomode; unused ones are blank.
-pub type Places = [Segment; SEGMENT_LIMIT];
+/// The entries of one iomode; unused ones are blank.
+pub type Entries = [Segment; SEGMENT_LIMIT];
 
 /// One client's rights in one file. The default table is empty.
 #[derive(Clone, Debug, Default, PartialEq, Eq)]
 pub struct Table {
-    places: [Places; 2],
+    entries: [Entries; 2],
 }
 
 impl Table {
-    pub fn places(&self, iomode: Iomode) -> &Places {
-        &self.places[iomode.index()]
+    pub fn entries(&self, iomode: Iomode) -> &Entries {
+        &self.entries[iomode.index()]
     }
 
-    /// One place, to be overwritten.
-    pub fn place_mut(&mut self, iomode: Iomode, place: usize) -> Option<&mut Segment> {
-        self.places[iomode.index()].get_mut(place)
+    /// One index, to be overwritten.
+    pub fn entry_mut(&mut self, iomode: Iomode, index: usize) -> Option<&mut Segment> {
+        self.entries[iomode.index()].get_mut(index)
     }
 
-    /// The places before the first blank one. No segment is blank, so in a
+    /// The entries before the first blank one. No segment is blank, so in a
     /// sound table these are all segments.
     pub fn segments(&self, iomode: Iomode) -> &[Segment] {
-        let places = self.places(iomode);
-        let count = places.iter().position(Segment::is_blank).unwrap_or(SEGMENT_LIMIT);
-        &places[..count]
+        let entries = self.entries(iomode);
+        let count = entries.iter().position(Segment::is_blank).unwrap_or(SEGMENT_LIMIT);
+        &entries[..count]
     }
 
-    /// Stores a list and blanks the other places, or refuses it as too long.
+    /// Stores a list and blanks the other entries, or refuses it as too long.
     pub fn replace(&mut self, iomode: Iomode, list: &[Segment]) -> Result<(), Refusal> {
-        let mut places = Places::default();
-        let used = places.get_mut(..list.len()).ok_or(Refusal::TooManySegments)?;
+        let mut entries = Entries::default();
+        let used = entries.get_mut(..list.len()).ok_or(Refusal::TooManySegments)?;
         used.copy_from_slice(list);
-        self.places[iomode.index()] = places;
+        self.entries[iomode.index()] = entries;
         Ok(())
     }
 
@@ -48,7 +48,7 @@ impl Table {
     /// are left to the test of soundness.
     pub fn named_slots(&self) -> [bool; SLOT_COUNT] {
         let mut named = [false; SLOT_COUNT];
-        for segment in self.places.iter().flatten() {
+        for segment in self.entries.iter().flatten() {
             if let Some(slot) = segment.right.slot().and_then(|slot| named.get_mut(slot as usize)) {
                 *slot = true;
             }

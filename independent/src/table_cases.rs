@@ -35,8 +35,8 @@ pub enum TableCase {
     Locate(IoRequest),
     ShowTable,
     ShowStore,
-    SetByte { place: usize, value: u8 },
-    SetSegment { iomode: Iomode, place: usize, segment: Segment },
+    SetByte { offset: usize, value: u8 },
+    SetSegment { iomode: Iomode, index: usize, segment: Segment },
     Reset,
     SetBorrowed(usize),
 }
@@ -76,9 +76,9 @@ fn parse_request(fields: &mut Fields, direction: Direction) -> Option<IoRequest>
 
 /// "place (LE4, below 32,768), value (1)"
 fn parse_set_byte(fields: &mut Fields) -> Option<TableCase> {
-    let place = fields.u32_up_to(STORE_LENGTH as u32 - 1)? as usize;
+    let offset = fields.u32_up_to(STORE_LENGTH as u32 - 1)? as usize;
     let [value] = fields.fixed()?;
-    Some(TableCase::SetByte { place, value })
+    Some(TableCase::SetByte { offset, value })
 }
 
 /// "iomode (LE4, 1 or 2), place (LE4, below 32), first (LE8), last (LE8), right
@@ -86,7 +86,7 @@ fn parse_set_byte(fields: &mut Fields) -> Option<TableCase> {
 /// the right is none)"
 fn parse_set_segment(fields: &mut Fields) -> Option<TableCase> {
     let iomode = Iomode::single(fields.u32()?)?;
-    let place = fields.u32_up_to(SEGMENT_LIMIT as u32 - 1)? as usize;
+    let index = fields.u32_up_to(SEGMENT_LIMIT as u32 - 1)? as usize;
     let (first, last) = (fields.u64()?, fields.u64()?);
     let right = fields.u32()?;
     let slot = fields.u32_up_to(SET_SLOT_LIMIT)?;
@@ -96,7 +96,7 @@ fn parse_set_segment(fields: &mut Fields) -> Option<TableCase> {
         2 => Right::Recalled(slot),
         _ => return None,
     };
-    Some(TableCase::SetSegment { iomode, place, segment: Segment { first, last, right } })
+    Some(TableCase::SetSegment { iomode, index, segment: Segment { first, last, right } })
 }
 
 /// The kind and the payload of a case.
@@ -109,11 +109,11 @@ pub fn encode_table_case(case: &TableCase) -> (u16, Vec<u8>) {
         TableCase::Locate(request) => (kind_of(request.direction), encode_request(request)),
         TableCase::ShowTable => (kind::SHOW_TABLE, Vec::new()),
         TableCase::ShowStore => (kind::SHOW_STORE, Vec::new()),
-        TableCase::SetByte { place, value } => {
-            (kind::SET_BYTE, [&(*place as u32).to_le_bytes()[..], &[*value]].concat())
+        TableCase::SetByte { offset, value } => {
+            (kind::SET_BYTE, [&(*offset as u32).to_le_bytes()[..], &[*value]].concat())
         }
-        TableCase::SetSegment { iomode, place, segment } => {
-            (kind::SET_SEGMENT, encode_segment(*iomode, *place, segment))
+        TableCase::SetSegment { iomode, index, segment } => {
+            (kind::SET_SEGMENT, encode_segment(*iomode, *index, segment))
         }
         TableCase::Reset => (kind::RESET, Vec::new()),
         TableCase::SetBorrowed(length) => (kind::SET_BORROWED, (*length as u32).to_le_bytes().to_vec()),
@@ -136,7 +136,7 @@ fn encode_request(request: &IoRequest) -> Vec<u8> {
     [request.offset.to_le_bytes(), request.length.to_le_bytes()].concat()
 }
 
-fn encode_segment(iomode: Iomode, place: usize, segment: &Segment) -> Vec<u8> {
+fn encode_segment(iomode: Iomode, index: usize, segment: &Segment) -> Vec<u8> {
     let (right, slot) = match segment.right {
         Right::None => (0_u32, 0),
         Right::Granted(slot) => (1, slot),
@@ -144,7 +144,7 @@ fn encode_segment(iomode: Iomode, place: usize, segment: &Segment) -> Vec<u8> {
     };
     let mut payload = Vec::new();
     payload.extend(iomode.number().to_le_bytes());
-    payload.extend((place as u32).to_le_bytes());
+    payload.extend((index as u32).to_le_bytes());
     payload.extend(segment.first.to_le_bytes());
     payload.extend(segment.last.to_le_bytes());
     payload.extend(right.to_le_bytes());
@@ -216,8 +216,8 @@ mod tests {
             TableCase::Locate(IoRequest::write(u64::MAX, 0)),
             TableCase::ShowTable,
             TableCase::ShowStore,
-            TableCase::SetByte { place: 32_767, value: 200 },
-            TableCase::SetSegment { iomode: Iomode::ReadWrite, place: 31, segment },
+            TableCase::SetByte { offset: 32_767, value: 200 },
+            TableCase::SetSegment { iomode: Iomode::ReadWrite, index: 31, segment },
             TableCase::Reset,
             TableCase::SetBorrowed(32_768),
         ];

@@ -21,12 +21,12 @@ pub fn table_case_line(state: &mut State, case: &TableCase) -> String {
         TableCase::Locate(request) => location_line(state, request),
         TableCase::ShowTable => table_line(&state.table),
         TableCase::ShowStore => store_line(&state.store),
-        TableCase::SetByte { place, value } => {
-            state.set_byte(*place, *value);
+        TableCase::SetByte { offset, value } => {
+            state.set_byte(*offset, *value);
             "set-byte done".to_string()
         }
-        TableCase::SetSegment { iomode, place, segment } => {
-            state.set_segment(*iomode, *place, *segment);
+        TableCase::SetSegment { iomode, index, segment } => {
+            state.set_segment(*iomode, *index, *segment);
             "set-segment done".to_string()
         }
         TableCase::Reset => {
@@ -94,9 +94,9 @@ mod tests {
     use crate::event::RangeNumbers;
     use crate::samples::bodies::{Layout4Head, LayoutPlan};
 
-    fn set_segment(place: usize, first: u64, last: u64, right: Right) -> TableCase {
+    fn set_segment(index: usize, first: u64, last: u64, right: Right) -> TableCase {
         let segment = Segment { first, last, right };
-        TableCase::SetSegment { iomode: Iomode::Read, place, segment }
+        TableCase::SetSegment { iomode: Iomode::Read, index, segment }
     }
 
     #[test]
@@ -155,7 +155,7 @@ mod tests {
         line(set_segment(2, 0, 0, Right::Recalled(0)));
         line(set_segment(4, 1, 1, Right::Granted(1)));
         assert_eq!(line(TableCase::ShowTable), "table read=5-9:g200,7-3:n,0-0:r0 rw=");
-        // The blank place hides what follows it.
+        // The blank entry hides what follows it.
         line(set_segment(3, 0, 0, Right::None));
         assert_eq!(line(TableCase::ShowTable), "table read=5-9:g200,7-3:n,0-0:r0 rw=");
         line(set_segment(0, 0, 0, Right::None));
@@ -170,15 +170,15 @@ mod tests {
         let mut state = State::default();
         let mut line = |case: TableCase| table_case_line(&mut state, &case);
         assert_eq!(line(TableCase::ShowStore), "shelf 0:0 0:0 0:0 0:0 0:0 0:0 0:0 0:0");
-        assert_eq!(line(TableCase::SetByte { place: 8_191, value: 9 }), "set-byte done");
+        assert_eq!(line(TableCase::SetByte { offset: 8_191, value: 9 }), "set-byte done");
         assert_eq!(line(TableCase::SetBorrowed(5)), "lend done");
         assert_eq!(line(TableCase::ShowStore), "shelf 0:0 0:9 0:0 0:0 0:0 0:0 0:0 0:0");
         assert_eq!(line(TableCase::Event(Event::Revoke)), "revoke refused 20");
-        line(TableCase::SetByte { place: 8_191, value: 0 });
+        line(TableCase::SetByte { offset: 8_191, value: 0 });
         assert_eq!(line(TableCase::Event(Event::Revoke)), "revoke refused 20");
         line(TableCase::SetBorrowed(32_768));
         assert_eq!(line(TableCase::Event(Event::Revoke)), "revoke accepted");
-        line(TableCase::SetByte { place: 28_673, value: 2 });
+        line(TableCase::SetByte { offset: 28_673, value: 2 });
         assert!(line(TableCase::ShowStore).contains(" 512:"));
     }
 }

@@ -5,7 +5,7 @@
 use crate::refusal::Refusal;
 use std::ops::RangeInclusive;
 
-/// Where the content bytes of an opaque item stand in its body.
+/// Where the content bytes of an opaque item are in its body.
 #[derive(Clone, Copy, Debug, Default, PartialEq, Eq)]
 pub struct Extent {
     pub start: usize,
@@ -37,8 +37,8 @@ impl<'a> Cursor<'a> {
         Cursor { bytes, at: at.min(bytes.len()) }
     }
 
-    /// How many bytes of the body stand before the cursor.
-    pub fn place(&self) -> usize {
+    /// How many bytes of the body are before the cursor.
+    pub fn offset(&self) -> usize {
         self.at
     }
 
@@ -84,7 +84,7 @@ impl<'a> Cursor<'a> {
     }
 
     /// "A length or count in front is an item of its own", so it is judged
-    /// before anything behind it is looked at.
+    /// before anything after it is looked at.
     #[inline]
     pub fn count(&mut self, limit: RangeInclusive<u32>) -> Result<u32, Refusal> {
         let value = self.uint()?;

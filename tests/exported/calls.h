@@ -36,7 +36,7 @@ static inline void constant(const char *name, uint64_t header, uint64_t paper, u
 #define CONSTANT(name, paper, core) constant(#name, name, paper, core, __FILE__, __LINE__)
 #define CHECK(fact) check(fact, #fact, __FILE__, __LINE__)
 #define CALL(function) (tested(#function), function)
-#define PLACES(array) (sizeof(array) / sizeof((array)[0]))
+#define ENTRIES(array) (sizeof(array) / sizeof((array)[0]))
 
 #define WHOLE UINT64_MAX
 

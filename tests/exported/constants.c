@@ -85,9 +85,9 @@ static uint32_t most_versions(void)
     struct version_plan v[20];
     uint32_t count = 1;
 
-    for (uint32_t i = 0; i < PLACES(v); i++)
+    for (uint32_t i = 0; i < ENTRIES(v); i++)
         v[i] = v3;
-    while (count < PLACES(v) && read_device(device_body(1, "tcp", "a", count, v)).refusal == 0)
+    while (count < ENTRIES(v) && read_device(device_body(1, "tcp", "a", count, v)).refusal == 0)
         count++;
     CHECK(read_device(device_body(1, "tcp", "a", count, v)).refusal == 8);
     return count - 1;
@@ -122,7 +122,7 @@ static void test_counts(void)
     CONSTANT(BASILOTHYN_VERSIONS, 8, most_versions());
     CONSTANT(BASILOTHYN_REPORTS, 8, most_reports());
     CONSTANT(BASILOTHYN_ERRORS, 16, most_errors());
-    CHECK(PLACES(d.addresses) == 8 && PLACES(d.versions) == 8 && PLACES(r.heads) == 8 && PLACES(r.errors_at) == 8);
+    CHECK(ENTRIES(d.addresses) == 8 && ENTRIES(d.versions) == 8 && ENTRIES(r.heads) == 8 && ENTRIES(r.errors_at) == 8);
 }
 
 /* One mirror of eight data servers of 508 bytes: 40 before four filehandles of 100 and their lengths, 48 for the user,
@@ -146,7 +146,7 @@ static void test_longest(void)
     struct bytes layout = layout_body(longest_layout()), whole = layout4(0, 1, 2, longest_layout()), device, reports;
     struct version_plan v[8];
 
-    for (uint32_t i = 0; i < PLACES(v); i++)
+    for (uint32_t i = 0; i < ENTRIES(v); i++)
         v[i] = v3;
     device = device_body(8, "netid678", text, 8, v);
     reports = report_body(8, 16);
@@ -302,7 +302,7 @@ static void test_texts(void)
         "no version", "stateid is not zero", "beyond the layout", "right", "no refusal", "no refusal", "unsound",
         "under another body", "recalled", "32 segments", "slot", "held", "output is too short", "operation"};
 
-    for (uint32_t number = 0; number < PLACES(words); number++) {
+    for (uint32_t number = 0; number < ENTRIES(words); number++) {
         const char *text = CALL(basilothyn_refusal_text)(number);
 
         CHECK(strstr(text, words[number]) != NULL);

@@ -66,11 +66,11 @@ static void test_sizes(void)
     CONSTANT(BASILOTHYN_STORE_LENGTH, 32768, store_taken());
     CONSTANT(BASILOTHYN_SEGMENTS, 32, most_segments(1));
     CONSTANT(BASILOTHYN_SEGMENTS, 32, most_segments(2));
-    CONSTANT(BASILOTHYN_SEGMENTS, 32, PLACES(table.read));
-    CONSTANT(BASILOTHYN_SEGMENTS, 32, PLACES(table.rw));
+    CONSTANT(BASILOTHYN_SEGMENTS, 32, ENTRIES(table.read));
+    CONSTANT(BASILOTHYN_SEGMENTS, 32, ENTRIES(table.rw));
     CONSTANT(BASILOTHYN_MIRRORS, 8, most_mirrors());
     CONSTANT(BASILOTHYN_SERVERS, 16, most_servers());
-    CHECK(PLACES(l.starts) == 128 && PLACES(l4.starts) == 128);
+    CHECK(ENTRIES(l.starts) == 128 && ENTRIES(l4.starts) == 128);
 }
 
 /* ---- layout bodies */
@@ -184,7 +184,7 @@ static void test_devices(void)
     for (uint32_t i = 0; i < 9; i++)
         v[i] = (struct version_plan){.version = 4, .minor = i % 3, .rsize = 100 + i, .wsize = 200 + i, .tight = i % 2};
     d = read_device(device_body(8, "tcp", "a", 8, v));
-    CHECK(d.refusal == 0 && d.address_count == PLACES(d.addresses) && d.version_count == PLACES(d.versions));
+    CHECK(d.refusal == 0 && d.address_count == ENTRIES(d.addresses) && d.version_count == ENTRIES(d.versions));
     for (uint32_t i = 0; i < 8; i++) {
         struct basilothyn_version e = d.versions[i];
 
@@ -425,7 +425,7 @@ static struct basilothyn_write_result write_reports(uint32_t reports, uint32_t e
     struct basilothyn_error list[128];
     uint32_t count = 0;
 
-    for (uint32_t i = 0; i < reports && i < PLACES(heads.heads); i++) {
+    for (uint32_t i = 0; i < reports && i < ENTRIES(heads.heads); i++) {
         heads.heads[i] = (struct basilothyn_report_head){.offset = 1, .length = 2, .errors = errors};
         memset(heads.heads[i].stateid, 3, 16);
         for (uint32_t k = 0; k < errors; k++, count++)
@@ -472,7 +472,7 @@ static void test_read_reports(void)
     struct bytes body = report_body(8, 16);
     struct basilothyn_reports_result r = read_reports(body);
 
-    CHECK(r.refusal == 0 && r.count == PLACES(r.heads) && PLACES(r.errors_at) == 8);
+    CHECK(r.refusal == 0 && r.count == ENTRIES(r.heads) && ENTRIES(r.errors_at) == 8);
     for (uint32_t i = 0; i < r.count; i++) {
         CHECK(r.heads[i].offset == 1 && r.heads[i].length == 2 && r.heads[i].errors == 16);
         CHECK(r.heads[i].stateid[0] == 3 && r.heads[i].stateid[15] == 3);

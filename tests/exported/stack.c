@@ -114,7 +114,7 @@ static void prepare(void)
     reports = report_body(8, 16);
     for (uint32_t i = 0; i < BASILOTHYN_REPORTS; i++)
         heads.heads[i] = (struct basilothyn_report_head){.offset = 1, .length = 2, .errors = 16};
-    for (uint32_t i = 0; i < PLACES(errors); i++)
+    for (uint32_t i = 0; i < ENTRIES(errors); i++)
         errors[i] = (struct basilothyn_error){.status = 5, .operation = BASILOTHYN_OP_READ};
 }
 
@@ -124,7 +124,7 @@ int main(void)
     if (posix_memalign((void **)&stack, 4096, PAINTED))
         return 2;
     tested("BASILOTHYN_STACK");
-    for (size_t i = 0; i < PLACES(calls); i++) {
+    for (size_t i = 0; i < ENTRIES(calls); i++) {
         size_t bytes = taken(i);
 
         printf("stack %s %zu\n", calls[i].name, bytes);

@@ -80,7 +80,7 @@ fn layouts_have_the_dissectors_values() {
     }
 }
 
-/// Each start leads to the dissector's server, and the other places are 0.
+/// Each start leads to the dissector's server, and the other entries are 0.
 fn check_starts(body: &[u8], starts: &[u16], server_count: usize, mirrors: &[Json]) {
     for (mirror, places) in starts.chunks(16).enumerate() {
         let servers = mirrors.get(mirror).map_or(&[][..], Json::list);

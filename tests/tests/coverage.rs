@@ -27,7 +27,7 @@ const NAMES: [&str; 12] = [
 /// The other cases, which always do what they say.
 const PLAIN_NAMES: [&str; 6] = ["table", "shelf", "set-byte", "set-segment", "reset", "lend"];
 
-/// How often each number stands behind "refused".
+/// How often each number is after "refused".
 fn refusals(answers: &str) -> BTreeMap<u32, usize> {
     let mut counts = BTreeMap::new();
     for line in answers.lines() {

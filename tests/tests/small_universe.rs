@@ -135,7 +135,7 @@ fn all_short_lists() {
 }
 
 /// Puts every list of the given length to a state. A refused event changes
-/// nothing, so no list goes on behind one. Gives the number of accepted lists.
+/// nothing, so no list goes on after one. Gives the number of accepted lists.
 fn lists_from(state: &(SideBySide, CellModel), events: &[Event], length: usize) -> usize {
     if length == 0 {
         return 1;

@@ -6,7 +6,7 @@ use independent::answers::answer_file;
 use std::fs;
 use std::path::{Path, PathBuf};
 
-/// Where the stored files stand, beside this package.
+/// Where the stored files are, beside this package.
 fn stored(name: &str) -> PathBuf {
     Path::new(env!("CARGO_MANIFEST_DIR")).join("../crates/answers").join(name)
 }

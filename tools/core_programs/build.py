@@ -50,7 +50,7 @@ class Progress:
         self.crates, self.started = sorted(crates), started
         self.line = ""
 
-    def say_under_way(self):
+    def report_under_way(self):
         """rt starts a crate's log when it starts the crate, and ends it with a line of its own."""
         done, under_way = 0, None
         for crate in self.crates:
@@ -122,7 +122,7 @@ def build(*names):
     with open(TOP / "crates.txt", encoding="utf-8") as lock:
         try:
             wait_for_others(lock)
-            run_rt(["check", *sorted(set(proved) & set(progress.crates))], progress.say_under_way)
+            run_rt(["check", *sorted(set(proved) & set(progress.crates))], progress.report_under_way)
             if ARCHIVE in names:
                 last = f"proving {len(progress.crates)} of {len(progress.crates)}: {ARCHIVE}"
                 run_rt(["staticlib", ARCHIVE], lambda: progress.say(last))

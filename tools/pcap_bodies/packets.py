@@ -122,7 +122,7 @@ class SegmentReader:
             segment = self.segment_of(frame)
             if segment:
                 yield segment
-        self.say_losses()
+        self.report_losses()
 
     def segment_of(self, frame):
         head = self.capture[frame.start : frame.start + min(frame.length, HEADERS_READ)]
@@ -137,7 +137,7 @@ class SegmentReader:
             self.cut.append(frame)
         return segment
 
-    def say_losses(self):
+    def report_losses(self):
         for link_type, frames in self.unknown.items():
             if not self.known:
                 raise Unreadable(f"the link type {link_type} is not one that is read here")

@@ -59,7 +59,7 @@ class StreamReader:
                 self.unmatched += 1
             elif asked.is_wanted:
                 self.follow(record, way, self.read_reply)
-        self.say_losses()
+        self.report_losses()
 
     def follow(self, record, way, read):
         try:
@@ -110,7 +110,7 @@ class StreamReader:
         walk_operations(cursor, record.kind, asked, take)
         return operations
 
-    def say_losses(self):
+    def report_losses(self):
         for losses in self.losses:
             if losses.tls_frame:
                 self.say(f"{self.stream}: TLS from frame {losses.tls_frame} on, which cannot be followed")

@@ -20,12 +20,12 @@ impl fmt::Debug for DeviceId {
     }
 }
 
-/// The 16 bytes at a place that the core answered.
+/// The 16 bytes at an offset that the core answered.
 pub(crate) fn id_at(body: &[u8], at: usize) -> DeviceId {
     DeviceId(*body[at..].first_chunk().expect("the core answers a place with 16 bytes behind it"))
 }
 
-/// The bytes that the core answered the place of.
+/// The bytes that the core answered the offset of.
 pub(crate) fn part(body: &[u8], part: PartRecord) -> &[u8] {
     &body[part.start..][..part.length]
 }

@@ -16,7 +16,7 @@ pub struct Piece {
     pub stripe: StripeNumber,
     /// The offset, in the file and on the server.
     pub offset: u64,
-    /// How many bytes the answer is good for; for the rest ask again behind them.
+    /// How many bytes the answer is good for; for the rest ask again after them.
     pub length: u64,
     /// The mirrors: of a read one, though any other of the layout may serve it too.
     pub mirrors: MirrorSet,

@@ -53,7 +53,7 @@ pub struct LocateResult {
     pub mirrors: u32,
 }
 
-/// Where bytes stand in a body, and how many they are.
+/// Where bytes are in a body, and how many they are.
 #[repr(C)]
 #[derive(Clone, Copy, Debug, Default, PartialEq, Eq)]
 pub struct PartRecord {
@@ -150,7 +150,7 @@ pub struct ReportsResult {
     pub errors_at: [usize; 8],
 }
 
-/// `device` is the place of the device id's 16 bytes.
+/// `device` is the offset of the device id's 16 bytes.
 #[repr(C)]
 #[derive(Clone, Copy, Debug, Default, PartialEq, Eq)]
 pub struct ErrorResult {

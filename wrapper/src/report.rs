@@ -43,7 +43,7 @@ pub struct Report {
     pub errors: Vec<IoError>,
 }
 
-/// The error that stands at a place of an `ff_layoutreturn4` body, whatever stands before and behind it. Any place may
+/// The error that is at an offset of an `ff_layoutreturn4` body, whatever is before and after it. Any offset may
 /// be asked for: what is no error there is refused.
 pub fn read_error(body: &[u8], at: usize) -> Result<IoError, Refusal> {
     let read = raw::read_error(body, at);

@@ -3,7 +3,7 @@
 use basilothyn::raw::*;
 use std::mem::{offset_of, size_of};
 
-/// A line for a record: its name in the header, its size, and the place of each field.
+/// A line for a record: its name in the header, its size, and the offset of each field.
 macro_rules! record {
     ($name:literal, $record:ty: $($shown:literal $field:ident),+) => {
         format!("\n{} {}", $name, size_of::<$record>()) + &[$(format!(" {}@{}", $shown, offset_of!($record, $field))),+].concat()

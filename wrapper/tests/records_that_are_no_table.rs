@@ -15,7 +15,7 @@ fn is_unsound(table: TableRecord) {
     assert!(store.iter().all(|&byte| byte == 0));
 }
 
-/// The empty table with one place of each iomode in turn.
+/// The empty table with one entry of each iomode in turn.
 fn with_place(place: usize, segment: SegmentRecord) -> [TableRecord; 2] {
     let (mut read, mut rw) = (raw::empty_table(), raw::empty_table());
     read.read[place] = segment;

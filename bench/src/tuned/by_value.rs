@@ -1,6 +1,6 @@
-//! The tuned Rust behind the core's boundary: a table goes in and comes out by value, as a record of plain numbers, through functions that are not inlined.
+//! The tuned Rust with the core's boundary: a table goes in and comes out by value, as a record of plain numbers, through functions that are not inlined.
 
-use super::table::{Right, Segment, Segments, Table, PLACES};
+use super::table::{Right, Segment, Segments, Table, ENTRIES};
 use super::{events, locate};
 use basilothyn::raw::{EventResult, LocateResult, SegmentRecord, TableRecord};
 
@@ -79,9 +79,9 @@ fn table_of(record: &TableRecord) -> Option<Table> {
 }
 
 #[inline(always)]
-fn segments_of(records: &[SegmentRecord; PLACES], count: u64) -> Option<Segments> {
+fn segments_of(records: &[SegmentRecord; ENTRIES], count: u64) -> Option<Segments> {
     let mut list = Segments { count: count as usize, ..Segments::default() };
-    for (place, record) in list.places.iter_mut().zip(records) {
+    for (place, record) in list.entries.iter_mut().zip(records) {
         *place = Segment { first: record.first, last: record.last, right: right_of(record.kind, record.slot)? };
     }
     Some(list)
@@ -101,7 +101,7 @@ fn right_of(kind: u32, slot: u32) -> Option<Right> {
 
 #[inline(always)]
 fn record_of(table: &Table) -> TableRecord {
-    let records = |list: &Segments| list.places.each_ref().map(segment_record);
+    let records = |list: &Segments| list.entries.each_ref().map(segment_record);
     TableRecord {
         read: records(&table.read),
         rw: records(&table.rw),

@@ -1,11 +1,11 @@
-//! What an event puts in the place of some neighbouring segments. An edit is made first and carried out once all tests have passed.
+//! What an event puts in place of some neighbouring segments. An edit is made first and carried out once all tests have passed.
 
-use super::table::{Right, Segment, Segments, PLACES};
+use super::table::{Right, Segment, Segments, ENTRIES};
 use std::ops::Range;
 
 /// A return leaves two parts of what it meets at most; a recall cuts at two bytes, so it adds two segments at most.
 pub type Return = Edit<2>;
-pub type Recall = Edit<{ PLACES + 2 }>;
+pub type Recall = Edit<{ ENTRIES + 2 }>;
 
 pub struct Edit<const N: usize> {
     window: Range<usize>,
@@ -36,7 +36,7 @@ impl<const N: usize> Edit<N> {
 
     /// 23 where the list would be too long.
     pub fn check(&self, list: &Segments) -> Result<(), u32> {
-        if self.length(list) > PLACES {
+        if self.length(list) > ENTRIES {
             return Err(23);
         }
         Ok(())
@@ -45,10 +45,10 @@ impl<const N: usize> Edit<N> {
     pub fn apply(&self, list: &mut Segments) {
         let length = self.length(list);
         let behind = self.window.start + self.count;
-        list.places.copy_within(self.window.end..list.count, behind);
-        list.places[self.window.start..behind].copy_from_slice(&self.parts[..self.count]);
+        list.entries.copy_within(self.window.end..list.count, behind);
+        list.entries[self.window.start..behind].copy_from_slice(&self.parts[..self.count]);
         if length < list.count {
-            list.places[length..list.count].fill(Segment::default());
+            list.entries[length..list.count].fill(Segment::default());
         }
         list.count = length;
     }
@@ -58,12 +58,12 @@ impl<const N: usize> Edit<N> {
 pub fn returned(list: &Segments, first: u64, last: u64) -> Return {
     let met = list.met(first, last);
     let mut edit = Edit::over(met.clone());
-    if let [front, ..] = &list.places[met.clone()] {
+    if let [front, ..] = &list.entries[met.clone()] {
         if front.first < first {
             edit.push(front.first, first - 1, front.right);
         }
     }
-    if let [.., back] = &list.places[met] {
+    if let [.., back] = &list.entries[met] {
         if back.last > last {
             edit.push(last + 1, back.last, back.right);
         }
@@ -75,7 +75,7 @@ pub fn returned(list: &Segments, first: u64, last: u64) -> Return {
 pub fn recalled(list: &Segments, met: Range<usize>, first: u64, last: u64) -> Recall {
     let window = met.start.saturating_sub(1)..(met.end + 1).min(list.count);
     let mut edit = Edit::over(window.clone());
-    for (place, segment) in window.clone().zip(&list.places[window]) {
+    for (place, segment) in window.clone().zip(&list.entries[window]) {
         match segment.right {
             Right::Granted(slot) if met.contains(&place) => {
                 if segment.first < first {
@@ -94,19 +94,19 @@ pub fn recalled(list: &Segments, met: Range<usize>, first: u64, last: u64) -> Re
 
 /// All that is met has the right that is granted, so one segment stands for it, and for the neighbours that it joins.
 pub fn granted(list: &Segments, met: Range<usize>, mut new: Segment) -> Edit<1> {
-    if let [front, ..] = &list.places[met.clone()] {
+    if let [front, ..] = &list.entries[met.clone()] {
         new.first = new.first.min(front.first);
     }
-    if let [.., back] = &list.places[met.clone()] {
+    if let [.., back] = &list.entries[met.clone()] {
         new.last = new.last.max(back.last);
     }
     let Range { mut start, mut end } = met;
-    if start > 0 && list.places[start - 1].joins(&new) {
+    if start > 0 && list.entries[start - 1].joins(&new) {
         start -= 1;
-        new.first = list.places[start].first;
+        new.first = list.entries[start].first;
     }
-    if end < list.count && new.joins(&list.places[end]) {
-        new.last = list.places[end].last;
+    if end < list.count && new.joins(&list.entries[end]) {
+        new.last = list.entries[end].last;
         end += 1;
     }
     let mut edit = Edit::over(start..end);

@@ -41,7 +41,7 @@ fn try_grant(table: &mut Table, store: &mut [u8], bytes: &[u8]) -> Result<(), u3
     let lowest_free = named.slots.trailing_ones() as u8;
     let list = table.list_mut(layout.iomode);
     let met = list.met(layout.first, layout.last);
-    let segments = &list.places[met.clone()];
+    let segments = &list.entries[met.clone()];
     // Where no slot holds the body, every held byte is under another one.
     if segments.iter().any(|segment| segment.right.slot() != own) {
         return Err(21);

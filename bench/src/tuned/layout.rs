@@ -20,7 +20,7 @@ pub struct Summary {
     pub hint: u32,
 }
 
-/// The start of a server stands at 16 times its mirror and its stripe.
+/// The start of a server is at 16 times its mirror and its stripe.
 #[derive(Clone, Copy, Debug, PartialEq, Eq)]
 pub struct Layout {
     pub summary: Summary,
@@ -37,7 +37,7 @@ pub fn accepts(body: &[u8]) -> Result<(), u32> {
     walk(body, |_, _| ()).map(|_| ())
 }
 
-/// Reads a body and hands on the place and the start of each server.
+/// Reads a body and hands on the offset and the start of each server.
 #[inline(always)]
 pub fn walk(body: &[u8], mut server: impl FnMut(usize, usize)) -> Result<Summary, u32> {
     if body.len() > BODY_LIMIT {

@@ -21,10 +21,10 @@ impl Named<'_> {
 
 /// What the named slots hold, or 20.
 pub fn sound<'a>(table: &Table, store: &'a [u8]) -> Result<Named<'a>, u32> {
-    judge(table, store).ok_or(20)
+    validate(table, store).ok_or(20)
 }
 
-fn judge<'a>(table: &Table, store: &'a [u8]) -> Option<Named<'a>> {
+fn validate<'a>(table: &Table, store: &'a [u8]) -> Option<Named<'a>> {
     if store.len() != STORE {
         return None;
     }
@@ -47,7 +47,7 @@ fn judge<'a>(table: &Table, store: &'a [u8]) -> Option<Named<'a>> {
 
 /// The slots that a sound list names.
 fn named_in(list: &Segments) -> Option<u8> {
-    let (used, blank) = list.places.split_at_checked(list.count)?;
+    let (used, blank) = list.entries.split_at_checked(list.count)?;
     let mut named = 0;
     for (place, segment) in used.iter().enumerate() {
         let slot = segment.right.slot().filter(|slot| usize::from(*slot) < SLOTS)?;

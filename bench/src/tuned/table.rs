@@ -1,9 +1,9 @@
-//! The segment table: 32 places and a count for each iomode.
+//! The segment table: 32 entries and a count for each iomode.
 
 use super::ranges::READ;
 use std::ops::Range;
 
-pub const PLACES: usize = 32;
+pub const ENTRIES: usize = 32;
 
 #[derive(Clone, Copy, Debug, Default, PartialEq, Eq)]
 pub enum Right {
@@ -23,7 +23,7 @@ impl Right {
     }
 }
 
-/// The default is a blank place.
+/// The default is a blank entry.
 #[derive(Clone, Copy, Debug, Default, PartialEq, Eq)]
 pub struct Segment {
     pub first: u64,
@@ -32,7 +32,7 @@ pub struct Segment {
 }
 
 impl Segment {
-    /// Whether the other one starts on the byte behind this one with the same right; it starts behind this one in any case.
+    /// Whether the other one starts on the byte after this one with the same right; it starts after this one in any case.
     #[inline(always)]
     pub fn joins(&self, behind: &Segment) -> bool {
         behind.first - self.last == 1 && behind.right == self.right
@@ -41,16 +41,16 @@ impl Segment {
 
 #[derive(Clone, Copy, Debug, Default, PartialEq, Eq)]
 pub struct Segments {
-    pub places: [Segment; PLACES],
+    pub entries: [Segment; ENTRIES],
     pub count: usize,
 }
 
 impl Segments {
     pub fn used(&self) -> &[Segment] {
-        &self.places[..self.count]
+        &self.entries[..self.count]
     }
 
-    /// The places of the segments that meet a range.
+    /// The entries of the segments that meet a range.
     pub fn met(&self, first: u64, last: u64) -> Range<usize> {
         let start = self.used().partition_point(|segment| segment.last < first);
         let behind = &self.used()[start..];

@@ -1,4 +1,4 @@
--- Laws of records looked through from the front: the next one and those behind it, one that stands for no segment, none left.
+-- Laws of records looked through from the front: the next one and those after it, one that stands for no segment, none left.
 use Prim.Native.Nat.{ℕ, _+_, _≤_, _<_}
 use mathlib.Core.Path.{_≡_, refl, sym, ap, _∙_}
 use mathlib.Core.Bool.{Bool, true, false, false≢true}
@@ -21,7 +21,7 @@ use Rattle.abi_table.specs.TableRecords.{itemsIn, rightOfNumbers, segmen
 
 -- ---- the segments of records
 
--- what was made of the first i records, and then what the records behind them stand for
+-- what was made of the first i records, and then what the records after them stand for
 abbrev pub Made : List SegmentRecord → List Segment → ℕ → Type 0
 Made l made i = itemsIn l ≡ given (itemsIn (drop i l)) (λ (xs : List Segment). accepted (take i made ++ xs))
 
@@ -38,7 +38,7 @@ items-next : (l : List SegmentRecord) (i : ℕ) (d : SegmentRecord) → i < leng
 unfolding itemsIn
 items-next l i d h = rw (drop-cons l i d h, add-one i)
 
--- a segment in place i, in front of those behind it
+-- a segment at index i, in front of those after it
 given-behind : (made : List Segment) (i : ℕ) (x : Segment) → i < length made → (a : Answer (List Segment))
     → given (given (accepted x) λ (y : Segment). given a λ (xs : List Segment). accepted (y ∷ xs)) (λ (xs : List Segment). accepted (take i made ++ xs))
     ≡ given a (λ (xs : List Segment). accepted (take (i + 1) (set made i x) ++ xs))
@@ -60,7 +60,7 @@ made-all l made i h k m = m ∙ rw (drop-of-length-le l h, take-all i made k, ap
 
 -- ---- both iomodes
 
--- a refused answer in front, or behind
+-- a refused answer in front, or after
 pub none-left : (r : TableRecord) (n : ℕ) → itemsIn (r .read) ≡ refused n → record { valid = false; table = emptyTable } ≡ decodedOf (tableIn r)
 unfolding tableIn segmentsOfRecords decodedOf given
 none-left r n e = rw e

@@ -17,7 +17,7 @@ use Rattle.abi_table.specs.declared.types.TableRecord.{TableRecord}
 abbrev pub segmentRecord : Segment → SegmentRecord
 segmentRecord s = record { first = s .first; last = s .last; kind = kindOf (s .right); slot = slotNumberOf (s .right) }
 
--- all places, used or not
+-- all entries, used or not
 unfoldable pub recordOf : Table → TableRecord
 recordOf t = record {
   read = map segmentRecord (t .read .items);

@@ -10,7 +10,7 @@ pub struct SegmentRecord {
     pub slot: u32,
 }
 
-// All 32 places of each iomode are there, used or not.
+// All 32 entries of each iomode are there, used or not.
 #[repr(C)]
 pub struct TableRecord {
     pub read: [SegmentRecord; MOST_SEGMENTS],

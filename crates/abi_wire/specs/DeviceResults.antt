@@ -32,7 +32,13 @@ tightNumber true = 1
 tightNumber false = 0
 
 abbrev pub versionRecord : Version → VersionRecord
-versionRecord v = record { version = v .version; minor = v .minor; rsize = v .rsize; wsize = v .wsize; tight = tightNumber (v .tight) }
+versionRecord v = record {
+  version = v .version;
+  minor = v .minor;
+  rsize = v .rsize;
+  wsize = v .wsize;
+  tight = tightNumber (v .tight);
+}
 
 abbrev pub noAddress : AddressRecord
 noAddress = record { class = 0; text = noPart }

@@ -16,7 +16,13 @@ abbrev pub partRecord : Part → PartRecord
 partRecord p = record { start = p .start; len = p .len }
 
 abbrev pub summaryRecord : Summary → SummaryRecord
-summaryRecord s = record { unit = s .unit; mirrors = s .mirrors; servers = s .servers; flags = s .flags; hint = s .hint }
+summaryRecord s = record {
+  unit = s .unit;
+  mirrors = s .mirrors;
+  servers = s .servers;
+  flags = s .flags;
+  hint = s .hint;
+}
 
 abbrev pub noPart : PartRecord
 noPart = record { start = 0; len = 0 }

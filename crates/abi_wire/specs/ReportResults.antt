@@ -13,7 +13,7 @@ use Rattle.report.specs.declared.body.ReportsRead.{ReportsRead}
 use Rattle.abi_wire.specs.declared.reports.ReportsResult.{ReportsResult}
 use Rattle.abi_wire.specs.declared.errors.ErrorResult.{ErrorResult}
 
--- how many reports there are, and in 8 places each their heads and where the first error of each stands
+-- how many reports there are, and in 8 entries each their heads and where the first error of each is
 pub record ReportArrays : Type 0 where
   pub count : ℕ
   pub heads : List ReportHead
@@ -23,7 +23,7 @@ pub record ReportArrays : Type 0 where
 abbrev pub arraysIn : Answer (List Report) → Answer ReportArrays
 arraysIn a = given a λ rs. accepted (record { count = length rs; heads = headsOf rs; offsets = offsetsOf rs })
 
--- of what the reader answers, whatever stands beside a refusal
+-- of what the reader answers, whatever is beside a refusal
 abbrev pub answerOfReports : ReportsRead → Answer ReportArrays
 answerOfReports x =
     given (answerOfCount (x .answer)) λ n. accepted (record { count = n; heads = x .heads; offsets = x .«errors_at» })
@@ -37,7 +37,7 @@ reportsResult (refused n) = record {
   «errors_at» = replicate mostReports 0;
 }
 
--- one error, whatever stands behind it
+-- one error, whatever is after it
 unfoldable pub errorResult : Parsed ErrorItem → ErrorResult
 errorResult (ok e at) = record { refusal = 0; device = e .device; status = e .status; operation = e .operation }
 errorResult (fault n) = record { refusal = n; device = 0; status = 0; operation = 0 }

@@ -1,4 +1,4 @@
-// What a binding answers: the version entry chosen, and where in the layout body its filehandle and credentials stand.
+// What a binding answers: the version entry chosen, and where in the layout body its filehandle and credentials are.
 use crate::devices::NO_VERSION;
 use crate::devices::VersionRecord;
 use crate::devices::version_record;
@@ -10,7 +10,7 @@ ghost use mathlib.Core.Path.{_≡_};
 ghost use Rattle.binding.specs.Answers.{answerOfBinding};
 ghost use Rattle.abi_wire.specs.BindResults.{bindResult};
 
-// Places in the layout body. Tightly coupled, user and group are not used and 0; else the stateid is.
+// Offsets in the layout body. Tightly coupled, user and group are not used and 0; else the stateid is.
 #[repr(C)]
 pub struct BindResult {
     pub refusal: u32,

@@ -11,7 +11,8 @@ use device::Version;
 ghost use mathlib.Core.Path.{_≡_};
 ghost use mathlib.Core.List.{map};
 ghost use Rattle.device.specs.Answers.{answerOfDevice};
-ghost use Rattle.abi_wire.specs.DeviceResults.{addressRecord, classNumber, deviceResult, tightNumber, versionRecord};
+ghost use Rattle.abi_wire.specs.DeviceResults.{addressRecord, classNumber, deviceResult, tightNumber};
+ghost use Rattle.abi_wire.specs.DeviceResults.{versionRecord};
 
 // The class of the netid is 0 for other, 1 tcp, 2 tcp6, 3 udp, 4 udp6, 5 rdma, 6 rdma6.
 #[repr(C)]

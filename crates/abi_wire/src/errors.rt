@@ -4,7 +4,7 @@ ghost use mathlib.Core.Path.{_≡_};
 ghost use Rattle.report.specs.Answers.{parsedOfError};
 ghost use Rattle.abi_wire.specs.ReportResults.{errorResult};
 
-// The 16 bytes of the device id stand at the place `device`.
+// The 16 bytes of the device id are at the offset `device`.
 #[repr(C)]
 pub struct ErrorResult {
     pub refusal: u32,

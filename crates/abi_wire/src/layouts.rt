@@ -26,7 +26,7 @@ pub struct SummaryRecord {
     pub hint: u32,
 }
 
-// The start of a data server stands at the index mirror * 16 + stripe.
+// The start of a data server is at the index mirror * 16 + stripe.
 #[repr(C)]
 pub struct LayoutResult {
     pub refusal: u32,

@@ -1,4 +1,4 @@
-// What the readers of the wire answer, as records of plain numbers, in which it crosses to C and Rust. A place is
+// What the readers of the wire answer, as records of plain numbers, in which it crosses to C and Rust. An offset is
 // counted from the first byte of the body read. After a refusal all but its number is 0.
 mod bindings;
 mod devices;

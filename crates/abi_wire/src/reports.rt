@@ -1,4 +1,4 @@
-// What was read of an `ff_layoutreturn4` body: how many error reports, their heads, and where their errors stand.
+// What was read of an `ff_layoutreturn4` body: how many error reports, their heads, and where their errors are.
 use base::REPORT_ENTRIES;
 use base::STATEID_SIZE;
 use report::ReportHead;
@@ -7,7 +7,7 @@ use report::ReportsRead;
 ghost use mathlib.Core.Path.{_≡_};
 ghost use Rattle.abi_wire.specs.ReportResults.{answerOfReports, reportsResult};
 
-// The first error of each report stands at its place in errors_at.
+// The first error of each report is at its offset in errors_at.
 #[repr(C)]
 pub struct ReportsResult {
     pub refusal: u32,

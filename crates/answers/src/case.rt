@@ -23,7 +23,7 @@ fn read_case_head() -> Case {
     if got < 6 {
         return Case::Stop;
     }
-    // The kind is the last two of the four bytes from place 2 on.
+    // The kind is the last two of the four bytes from offset 2 on.
     Case::Of(bytes::le4(&head, 2) / 65536, bytes::le4(&head, 0))
 }
 

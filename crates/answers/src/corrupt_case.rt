@@ -9,7 +9,7 @@ use segments::Segment;
 use segments::Segments;
 use segments::Table;
 
-// The payload has: place, value.
+// The payload has: offset, value.
 pub(crate) fn set_byte(payload: &[u8], store: &mut [u8]) {
     let index = bytes::le4(payload, 0) as usize;
     if store.len() <= index {
@@ -41,7 +41,7 @@ fn is_blank(s: Segment) -> bool {
     segments::same_right(Right::None, right)
 }
 
-// The number of places before the first blank one.
+// The number of entries before the first blank one.
 fn count_of(items: [Segment; MOST_SEGMENTS]) -> usize {
     let mut i: usize = 0;
     while i < MOST_SEGMENTS {
@@ -54,7 +54,7 @@ fn count_of(items: [Segment; MOST_SEGMENTS]) -> usize {
     MOST_SEGMENTS
 }
 
-// A place past the last one changes nothing.
+// An index past the last one changes nothing.
 fn with_entry(g: Segments, index: usize, s: Segment) -> Segments {
     if MOST_SEGMENTS <= index {
         return g;
@@ -67,7 +67,7 @@ fn with_entry(g: Segments, index: usize, s: Segment) -> Segments {
     }
 }
 
-// The payload has: iomode, place, first, last, right, slot.
+// The payload has: iomode, index, first, last, right, slot.
 fn segment_of(payload: &[u8]) -> Segment {
     let right = right_of(bytes::le4(payload, 24), bytes::le4(payload, 28));
     Segment {

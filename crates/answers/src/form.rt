@@ -1,7 +1,7 @@
 // The forms of the payloads, by kind of case.
 use base::STORE_SIZE;
 
-// The length of a whole store, as a case gives a length of it or a place in it.
+// The length of a whole store, as a case gives a length of it or an offset in it.
 const WHOLE_STORE: u32 = STORE_SIZE as u32;
 
 fn is_set_byte(payload: &[u8]) -> bool {

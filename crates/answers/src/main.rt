@@ -63,7 +63,7 @@ fn print_last(r: Case, offset: u64) {
     end_line();
 }
 
-// A proved loop has to end, and nothing says that a file does. So the place is bounded, by more than any file has.
+// A proved loop has to end, and nothing says that a file does. So the offset is bounded, by more than any file has.
 fn main() {
     let mut payload = [0u8; 16000];
     let mut store = [0u8; STORE_SIZE];

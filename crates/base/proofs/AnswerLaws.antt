@@ -40,7 +40,7 @@ same-refusal n k e = cc
 
 -- ---- what an accepted answer went through
 
--- the question before it, and the one behind that
+-- the question before it, and the one after that
 pub record GivenInv {A B : Type 0} (x : Answer A) (f : A → Answer B) (b : B) : Type 0 where
   pub value : A
   pub first : x ≡ accepted value

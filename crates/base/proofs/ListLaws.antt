@@ -1,4 +1,4 @@
--- What holds of lists, whatever stands in them.
+-- What holds of lists, whatever is in them.
 use Prim.Native.Nat.{ℕ, zero, suc, _+_, _-_, _≤_, _<_, min}
 use mathlib.Core.Path.{_≡_, refl, sym, ap, _∙_}
 use mathlib.Core.List.{List, [], _∷_, _++_, map, append-assoc, append-nil, map-append}
@@ -27,7 +27,7 @@ pub sets-append : {A : Type 0} (l : List A) (at : ℕ) (xs ys : List A) → sets
 sets-append l at [] ys = rw (add-zero at)
 sets-append l at (x ∷ xs) ys = let e : at + suc (length xs) ≡ suc at + length xs = omega arith in rw e (sets-append (set l at x) (suc at) xs ys)
 
--- a store behind a run may be made before it
+-- a store after a run may be made before it
 pub sets-set : {A : Type 0} (l : List A) (at : ℕ) (xs : List A) (j : ℕ) (b : A) → at + length xs ≤ j → sets (set l j b) at xs ≡ set (sets l at xs) j b
 sets-set l at [] j b h = refl
 sets-set l at (x ∷ xs) j b h =
@@ -93,7 +93,7 @@ module _ {A : Type 0} where
   default-behind (x ∷ l) r zero d = refl
   default-behind (x ∷ l) r (suc i) d = default-behind l r i d
 
-  -- the first place behind the list set
+  -- the first entry after the list set
   pub set-behind : (l : List A) (r i : ℕ) (d a : A) → length l ≡ i → 0 < r → set (l ++ replicate r d) i a ≡ l ++ (a ∷ []) ++ replicate (r - 1) d
   set-behind l zero i d a h k = absurd (omega arith)
   set-behind l (suc r) i d a h k =
@@ -141,7 +141,7 @@ module _ {A : Type 0} (n : ℕ) (d : A) where
   pub filled-is-padded : (l : List A) → length l ≤ n → sets (replicate n d) 0 l ≡ padded n d l
   filled-is-padded l h = sets-behind [] l n d h
 
-  -- more places: the n first, and the others
+  -- more entries: the n first, and the others
   pub padded-first : (l : List A) (r : ℕ) → length l ≤ n → n ≤ r → padded r d l ≡ padded n d l ++ replicate (r - n) d
   unfolding padded
   padded-first l r h k =

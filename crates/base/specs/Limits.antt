@@ -80,7 +80,7 @@ slotSize = 4096
 abbrev pub storeSize : ℕ
 storeSize = slotCount * slotSize
 
--- What stands before the body in a slot: "length (4 bytes, little-endian), kind (2 bytes, little-endian, value 4)".
+-- What is before the body in a slot: "length (4 bytes, little-endian), kind (2 bytes, little-endian, value 4)".
 abbrev pub slotHeadSize : ℕ
 slotHeadSize = 6
 

@@ -1,4 +1,4 @@
--- Lists: of a fixed number of places, and of members that are all of a kind.
+-- Lists: of a fixed number of entries, and of members that are all of a kind.
 use Prim.Native.Nat.{ℕ, _-_}
 use mathlib.Core.List.{List, [], _∷_, _++_}
 use lib.ListN.{length, replicate}

@@ -64,11 +64,11 @@ pub use refusal::number;
 pub use wide::wide8;
 pub use wide::wide16;
 
-// A mirror's place among the mirrors of a layout.
+// A mirror's number among the mirrors of a layout.
 pub struct MirrorNumber(pub u32);
 
-// A data server's place among the servers of a mirror.
+// A data server's number among the servers of a mirror.
 pub struct StripeNumber(pub u32);
 
-// A slot's place in the body store.
+// A slot's number in the body store.
 pub struct SlotNumber(pub u32);

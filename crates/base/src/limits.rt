@@ -1,5 +1,5 @@
-// The limits and sizes of the scope, once each. A count that is read is a u32; `.._PLACES` is how many places an array
-// has for what is counted.
+// The limits and sizes of the scope, once each. A count that is read is a u32; `.._ENTRIES` is how many entries an
+// array has for what is counted.
 
 // "body at most 4,090 bytes"
 pub const LONGEST_BODY: usize = 4090;
@@ -10,7 +10,7 @@ pub const MOST_MIRRORS: u32 = 8;
 // "1 to 16 servers a mirror"
 pub const MOST_SERVERS: u32 = 16;
 
-// "where each server starts, by mirror and by stripe .. with 0 in unused places": a row of places for each mirror
+// "where each server starts, by mirror and by stripe .. with 0 in unused places": a row of entries for each mirror
 pub const MIRROR_ENTRIES: usize = MOST_MIRRORS as usize;
 
 pub const ROW_ENTRIES: usize = MOST_SERVERS as usize;
@@ -70,7 +70,7 @@ pub const SLOT_SIZE: usize = 4096;
 // "a lent buffer of 32,768 bytes"
 pub const STORE_SIZE: usize = SLOT_ENTRIES * SLOT_SIZE;
 
-// What stands before the body in a slot: "length (4 bytes, little-endian), kind (2 bytes, little-endian, value 4)".
+// What is before the body in a slot: "length (4 bytes, little-endian), kind (2 bytes, little-endian, value 4)".
 pub const SLOT_HEAD_SIZE: usize = 6;
 
 // "Report count (0 to 8)"

@@ -12,7 +12,7 @@ use Rattle.abi_table.specs.TableRecords.{recordOf}
 use Rattle.abi_table.specs.declared.types.TableRecord.{TableRecord}
 use Rattle.abi_table.proofs.TableRoundTrip.{table-back}
 use Rattle.model.specs.Model.{Event, Model, rightsAndSlots, run, start, tableOf}
-use Rattle.model.specs.AnyTable.{leftBy}
+use Rattle.model.specs.Invariants.{leftBy}
 use Rattle.model.specs.Claim.{Demand3, Fits, keptLeft}
 use Rattle.model.proofs.ModelLaws.{plain-lawful}
 use Rattle.model.proofs.FromStep.{demand-3, kept-left, start-table}

@@ -58,7 +58,15 @@ locateResult (accepted p) = record {
   length = p .length;
   mirrors = p .mirrors;
 }
-locateResult (refused n) = record { refusal = n; iomode = 0; slot = 0; stripe = 0; offset = 0; length = 0; mirrors = 0 }
+locateResult (refused n) = record {
+  refusal = n;
+  iomode = 0;
+  slot = 0;
+  stripe = 0;
+  offset = 0;
+  length = 0;
+  mirrors = 0;
+}
 
 unfoldable pub routedOn : Bool → TableRecord → List ℕ → ℕ → ℕ → LocateResult
 routedOn write r store offset len = locateResult (given (tableIn r) λ t. routed write t store offset len)

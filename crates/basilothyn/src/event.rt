@@ -71,7 +71,8 @@ pub extern "C" fn basilothyn_grant(
     store: &mut [u8],
     bytes: &[u8],
 ) -> EventResult
-    ensures { λ r. ⌜ recordResultOf r (now (store .exit)) ≡ eventOnRecord (Grant (now (bytes .entry))) table (now (store .entry)) ⌝ }
+    ensures { λ r. ⌜ recordResultOf r (now (store .exit))
+        ≡ eventOnRecord (Grant (now (bytes .entry))) table (now (store .entry)) ⌝ }
 {
     call(table, store, Event::Grant, bytes)
 }
@@ -84,7 +85,8 @@ pub extern "C" fn basilothyn_return(
     len: u64,
     iomode: u32,
 ) -> EventResult
-    ensures { λ r. ⌜ recordResultOf r (now (store .exit)) ≡ eventOnRecord (Return offset len iomode) table (now (store .entry)) ⌝ }
+    ensures { λ r. ⌜ recordResultOf r (now (store .exit))
+        ≡ eventOnRecord (Return offset len iomode) table (now (store .entry)) ⌝ }
 {
     let n = Numbers {
         offset,
@@ -102,7 +104,8 @@ pub extern "C" fn basilothyn_recall(
     len: u64,
     iomode: u32,
 ) -> EventResult
-    ensures { λ r. ⌜ recordResultOf r (now (store .exit)) ≡ eventOnRecord (Recall offset len iomode) table (now (store .entry)) ⌝ }
+    ensures { λ r. ⌜ recordResultOf r (now (store .exit))
+        ≡ eventOnRecord (Recall offset len iomode) table (now (store .entry)) ⌝ }
 {
     let n = Numbers {
         offset,

@@ -46,8 +46,10 @@ pub extern "C" fn basilothyn_write_report(
     errors: &[ErrorEntry],
     out: &mut [u8],
 ) -> WriteResult
-    ensures { λ r. ⌜ (r ≡ writeResult (lengthOf (reportsWritten count (heads .heads) (entriesOf (now (errors .entry))) (length (now (out .entry))))))
-        × (now (out .exit) ≡ outputAfter (now (out .entry)) (reportsWritten count (heads .heads) (entriesOf (now (errors .entry))) (length (now (out .entry))))) ⌝ }
+    ensures { λ r. ⌜ (r ≡ writeResult (lengthOf
+        (reportsWritten count (heads .heads) (entriesOf (now (errors .entry))) (length (now (out .entry))))))
+        × (now (out .exit) ≡ outputAfter (now (out .entry))
+        (reportsWritten count (heads .heads) (entriesOf (now (errors .entry))) (length (now (out .entry))))) ⌝ }
 {
     let written = error_list::write_error_list(count, heads.heads, errors, out);
     result_of(written)

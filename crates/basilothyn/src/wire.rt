@@ -52,7 +52,8 @@ pub extern "C" fn basilothyn_bind(
     id: &[u8; DEVICE_ID_SIZE],
     supported: u32,
 ) -> BindResult
-    ensures { λ r. ⌜ r ≡ bindResult (boundTo (now (layout .entry)) mirror stripe (now (device .entry)) (now (id .entry)) supported) ⌝ }
+    ensures { λ r. ⌜ r ≡ bindResult (boundTo (now (layout .entry)) mirror stripe (now (device .entry))
+        (now (id .entry)) supported) ⌝ }
 {
     let m = MirrorNumber(mirror);
     let s = StripeNumber(stripe);
@@ -66,7 +67,7 @@ pub extern "C" fn basilothyn_read_reports(body: &[u8]) -> ReportsResult
     abi_wire::reports_result(report::read_reports(body))
 }
 
-// The error that stands at a place of a body.
+// The error that is at an offset of a body.
 #[no_mangle]
 pub extern "C" fn basilothyn_read_error(body: &[u8], at: usize) -> ErrorResult
     ensures { λ r. ⌜ r ≡ errorResult (errorAt (now (body .entry)) at) ⌝ }

@@ -17,7 +17,7 @@ use Rattle.bytes.specs.Numbers.{bytesFrom, sameBytes}
 use Rattle.server.specs.Servers.{handlesAt, serverAt}
 use Rattle.server.specs.declared.item.Server.{Server}
 use Rattle.layout.specs.Layouts.{Layout, layoutBody, startAt}
-use Rattle.layout.proofs.LayoutLaws.{start-stands}
+use Rattle.layout.proofs.LayoutLaws.{start-is-at}
 use Rattle.device.specs.Bodies.{Device, deviceBody}
 use Rattle.device.specs.Versions.{blankVersion}
 use Rattle.device.specs.declared.version.Version.{Version}
@@ -74,8 +74,8 @@ handle-there s at v p i e h =
 
 -- ---- which refusals come
 
-abbrev pub Listed : ℕ → Type 0
-Listed n = (n ≡ 16) ⊎ ((n ≡ 8) ⊎ ((n ≡ 13) ⊎ ((n ≡ 14) ⊎ (n ≡ 15))))
+abbrev pub BindingRefusal : ℕ → Type 0
+BindingRefusal n = (n ≡ 16) ⊎ ((n ≡ 8) ⊎ ((n ≡ 13) ⊎ ((n ≡ 14) ⊎ (n ≡ 15))))
 
 require-refused : {A : Type 0} (t : Bool) (k : ℕ) (x : Answer A) (n : ℕ) → require t k x ≡ refused n → (n ≡ k) ⊎ ((t ≡ true) × (x ≡ refused n))
 unfolding require pick
@@ -117,13 +117,13 @@ server-refused s start p v versions count id set n r e =
 
 -- a binding refuses with the number of a body, or with 16, 8, 13, 14 or 15
 pub refused-as-listed : (layout : List ℕ) (mirror stripe : ℕ) (device id : List ℕ) (set n : ℕ) → boundTo layout mirror stripe device id set ≡ refused n
-    → (layoutBody layout ≡ refused n) ⊎ ((deviceBody device ≡ refused n) ⊎ Listed n)
+    → (layoutBody layout ≡ refused n) ⊎ ((deviceBody device ≡ refused n) ⊎ BindingRefusal n)
 unfolding boundTo given
 refused-as-listed layout mirror stripe device id set n e = bodies (layoutBody layout) refl (deviceBody device) refl e where
   servers : (l : Layout) (d : Device) → layoutBody layout ≡ accepted l → (ltb mirror (l .summary .mirrors)) ≡ true → (ltb stripe (l .summary .servers)) ≡ true
-      → serverBound layout (startAt (l .starts) mirror stripe) (d .versions) (d .versionCount) id set ≡ refused n → Listed n
+      → serverBound layout (startAt (l .starts) mirror stripe) (d .versions) (d .versionCount) id set ≡ refused n → BindingRefusal n
   servers l d h hm hs k =
-      let i = start-stands layout l h mirror stripe (ltb-true _ _ hm) (ltb-true _ _ hs) in
+      let i = start-is-at layout l h mirror stripe (ltb-true _ _ hm) (ltb-true _ _ hs) in
       inr (inr (server-refused layout _ (i .next) (i .server) (d .versions) (d .versionCount) id set n (i .read) k))
 
   listed : (l : Layout) (d : Device) → layoutBody layout ≡ accepted l
@@ -131,7 +131,7 @@ refused-as-listed layout mirror stripe device id set n e = bodies (layoutBody la
       (require (ltb stripe (l .summary .servers)) 16
       (require (leb set 15) 8
       (serverBound layout (startAt (l .starts) mirror stripe) (d .versions) (d .versionCount) id set))) ≡ refused n
-      → Listed n
+      → BindingRefusal n
   listed l d h k =
       ⊎-elim (λ a. inl a)
       (λ a. ⊎-elim (λ b. inl b)
@@ -145,7 +145,7 @@ refused-as-listed layout mirror stripe device id set n e = bodies (layoutBody la
       (require (ltb stripe (l .summary .servers)) 16
       (require (leb set 15) 8
       (serverBound layout (startAt (l .starts) mirror stripe) (d .versions) (d .versionCount) id set)))) ≡ refused n
-      → (layoutBody layout ≡ refused n) ⊎ ((deviceBody device ≡ refused n) ⊎ Listed n)
+      → (layoutBody layout ≡ refused n) ⊎ ((deviceBody device ≡ refused n) ⊎ BindingRefusal n)
   bodies (accepted l) h (accepted d) k e' = inr (inr (listed l d h e'))
   bodies (accepted l) h (refused m) k e' = inr (inl (k ∙ ap refused (same-refusal m n e')))
   bodies (refused m) h y k e' = inl (h ∙ ap refused (same-refusal m n e'))

@@ -24,7 +24,7 @@ use Rattle.binding.specs.declared.entry.Bound.{Bound}
 unfoldable pub require : {A : Type 0} → Bool → ℕ → Answer A → Answer A
 require test n next = pick test next (refused n)
 
--- an item, without the place behind it
+-- an item, without the offset after it
 unfoldable pub valueOf : {A : Type 0} → Parsed A → Answer A
 valueOf (ok a at) = accepted a
 valueOf (fault n) = refused n
@@ -40,7 +40,7 @@ unfoldable pub chosenFrom : ℕ → ℕ → List Version → Answer ℕ
 chosenFrom set i [] = refused 14
 chosenFrom set i (v ∷ vs) = pick (supports set v) (accepted i) (chosenFrom set (i + 1) vs)
 
--- "and the filehandle at its place": the one behind i others
+-- "and the filehandle at its place": the one after i others
 unfoldable pub handleAt : ℕ → List ℕ → ℕ → Parsed Part
 handleAt i s at = then (handlesAt i s at) λ passed p. opaqueAt 1 longestFilehandle s p
 
@@ -61,7 +61,14 @@ noBytes = record { start = 0; len = 0 }
 unfoldable pub bound : Server → Version → ℕ → Part → Bound
 bound server v i handle =
     pick (v .tight)
-    (record { entry = i; version = v; filehandle = handle; stateid = server .stateid; user = noBytes; group = noBytes })
+    (record {
+      entry = i;
+      version = v;
+      filehandle = handle;
+      stateid = server .stateid;
+      user = noBytes;
+      group = noBytes;
+    })
     (record { entry = i; version = v; filehandle = handle; stateid = 0; user = server .user; group = server .group })
 
 -- a server and the entry chosen for it
@@ -70,7 +77,7 @@ entryBound s server v i =
     require (stateidFits s v (server .stateid)) 15
     (given (valueOf (handleAt i s (server .«first_handle»))) λ handle. accepted (bound server v i handle))
 
--- the server that starts at a place, against the device's first count entries
+-- the server that starts at an offset, against the device's first count entries
 unfoldable pub serverBound : List ℕ → ℕ → List Version → ℕ → List ℕ → ℕ → Answer Bound
 serverBound s start versions count id set =
     given (valueOf (serverAt s start)) λ server.

@@ -1,4 +1,5 @@
-// The whole order of a binding: layout body, device body, place, set of versions, then server and entry.
+// The whole order of a binding: layout body, device body, mirror and stripe number, set of versions, then server and
+// entry.
 use crate::entry::Binding;
 use crate::entry::bind_server;
 use base::DEVICE_ID_SIZE;

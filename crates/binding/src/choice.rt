@@ -1,4 +1,4 @@
-// Which version entry is chosen, and the filehandle at a place.
+// Which version entry is chosen, and the filehandle with its number.
 use base::Fault;
 use base::LONGEST_FILEHANDLE;
 use base::Refusal;
@@ -63,7 +63,7 @@ pub(crate) fn refusal_of_choice(r: Choice) -> Refusal
     }
 }
 
-// The filehandle behind i others.
+// The filehandle after i others.
 pub(crate) fn read_handle(s: &[u8], first: Cursor, i: u32) -> ReadPart
     ensures { λ r. ⌜ parsedOfPart r ≡ handleAt i (now (s .entry)) (first .at) ⌝ }
 {

@@ -20,7 +20,7 @@ ghost use Rattle.base.specs.Limits.{deviceIdSize, mostVersions, stateidSize};
 ghost use Rattle.binding.specs.Bindings.{entryBound, matches, serverBound, stateidFits};
 ghost use Rattle.binding.specs.Answers.{answerOfBinding};
 
-// The entry's number and fields, and its filehandle. A tightly coupled entry has the place of the stateid, another
+// The entry's number and fields, and its filehandle. A tightly coupled entry has the offset of the stateid, another
 // one user and group; what is not used is 0.
 pub struct Bound {
     pub entry: u32,
@@ -105,7 +105,7 @@ fn bind_entry(s: &[u8], server: Server, v: Version, i: u32) -> Binding
     })
 }
 
-// The server that starts at a place, against the first count of the version entries.
+// The server that starts at an offset, against the first count of the version entries.
 pub(crate) fn bind_server(
     s: &[u8],
     start: usize,

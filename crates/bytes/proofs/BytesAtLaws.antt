@@ -1,4 +1,4 @@
--- Laws of bytes that stand at a place of a list: parts and joins, and a number that stands there.
+-- Laws of bytes that are at an offset of a list: parts and joins, and a number that is there.
 use Prim.Native.Nat.{ℕ, _+_, _^_, _≤_, _<_}
 use mathlib.Core.Path.{_≡_, refl, sym, ap, _∙_}
 use mathlib.Core.List.{List, _++_}
@@ -10,7 +10,7 @@ use Rattle.base.specs.Answer.{pick}
 use Rattle.bytes.specs.Numbers.{AllBytes, beAt, beBytes, beValue, bytesFrom}
 use Rattle.bytes.proofs.NumberLaws.{be-back, be-round, dropped-bytes, length-be, length-bytes, taken-bytes, two-parts}
 
--- the bytes bs stand in s from a place on
+-- the bytes bs are in s from an offset on
 pub record BytesAt (bs s : List ℕ) (at : ℕ) : Type 0 where
   pub room : at + length bs ≤ length s
   pub same : bytesFrom (length bs) s at ≡ bs

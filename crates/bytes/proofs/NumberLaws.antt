@@ -29,7 +29,7 @@ last-of-run i s at h =
     let k : i < length (drop at s) = simp length-drop (omega arith) in
     rw (add-one i, take-suc (drop at s) i 0 k, getD-drop)
 
--- the k bytes from a place, and what is behind them
+-- the k bytes from an offset, and what is after them
 pub run-first : (k : ℕ) (s : List ℕ) (at : ℕ) → drop at s ≡ bytesFrom k s at ++ drop (at + k) s
 run-first k s at = sym (take-append-drop k (drop at s)) ∙ ap (λ (l : List ℕ). bytesFrom k s at ++ l) (drop-drop k at s)
 
@@ -43,7 +43,7 @@ fewer-left k s at h =
     let b : length (drop at s) ≤ k = simp length-drop (omega arith) in
     take-all (length s - at) (drop at s) a ∙ sym (take-all k (drop at s) b)
 
--- the byte i places on, and the k behind it
+-- the byte i bytes on, and the k after it
 next-byte : (i k : ℕ) (s : List ℕ) (at : ℕ) → at + i < length s → bytesFrom (suc k) s (at + i) ≡ getD s (at + i) 0 ∷ bytesFrom k s (at + suc i)
 next-byte i k s at h = let e : at + suc i ≡ suc (at + i) = omega arith in rw e (first-byte k s (at + i) h)
 

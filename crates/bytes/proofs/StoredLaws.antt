@@ -61,7 +61,7 @@ length-stored l at bs = go (leb (at + length bs) (length l)) where
   go true = length-sets l at bs
   go false = refl
 
--- bytes stored right behind others are stored with them
+-- bytes stored right after others are stored with them
 pub stored-then : (l : List ℕ) (at p : ℕ) (xs ys : List ℕ) → p ≡ at + length xs → p + length ys ≤ length l
     → stored (stored l at xs) p ys ≡ stored l at (xs ++ ys)
 stored-then l at p xs ys e h =

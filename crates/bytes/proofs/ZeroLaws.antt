@@ -1,4 +1,4 @@
--- Laws of bytes that are all zero: two parts, one more byte, a block and what is behind it, what they are.
+-- Laws of bytes that are all zero: two parts, one more byte, a block and what is after it, what they are.
 use Prim.Native.Nat.{ℕ, zero, suc, _+_, _<_}
 use mathlib.Core.Path.{_≡_, refl, ap, ap₂, _∙_}
 use mathlib.Core.Bool.{true, _&&_, and-assoc, and-true}

@@ -10,11 +10,11 @@ use Rattle.base.specs.Answer.{pick}
 abbrev pub AllBytes : List ℕ → Type 0
 AllBytes bs = (i : ℕ) → getD bs i 0 < 256
 
--- the k bytes from a place
+-- the k bytes from an offset
 abbrev pub bytesFrom : ℕ → List ℕ → ℕ → List ℕ
 bytesFrom k s at = take k (drop at s)
 
--- v, and the bytes behind it as its lower digits
+-- v, and the bytes after it as its lower digits
 unfoldable pub beFrom : ℕ → List ℕ → ℕ
 beFrom v [] = v
 beFrom v (b ∷ bs) = beFrom (v * 256 + b) bs
@@ -38,7 +38,7 @@ unfoldable pub leBytes : ℕ → ℕ → List ℕ
 leBytes zero v = []
 leBytes (suc k) v = v % 256 ∷ leBytes k (v / 256)
 
--- the number of the k bytes at a place, big-endian and little-endian; 0 where the bytes run out
+-- the number of the k bytes at an offset, big-endian and little-endian; 0 where the bytes run out
 unfoldable pub beAt : ℕ → List ℕ → ℕ → ℕ
 beAt k s at = pick (leb (at + k) (length s)) (beValue (bytesFrom k s at)) 0
 

@@ -1,4 +1,4 @@
-// Numbers of 2, 4 and 8 bytes at a place of a slice; 0 where the bytes run out.
+// Numbers of 2, 4 and 8 bytes at an offset of a slice; 0 where the bytes run out.
 use base::wide8;
 ghost use mathlib.Core.Path.{_≡_};
 ghost use Rattle.bytes.specs.Numbers.{beAt, leAt};

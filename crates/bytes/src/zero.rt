@@ -17,7 +17,7 @@ fn zero_run(s: &[u8], at: usize, n: usize) -> bool
     z
 }
 
-// The bytes from a place to the end.
+// The bytes from an offset to the end.
 pub fn all_zero(s: &[u8], at: usize) -> bool
     ensures { λ r. ⌜ r ≡ allZero (drop at (now (s .entry))) ⌝ }
 {

@@ -1,4 +1,4 @@
-// What the words behind the file's name ask for.
+// What the words after the file's name ask for.
 use print::print_text;
 
 pub struct Options {
@@ -103,7 +103,7 @@ fn with_argument(w: Options, i: usize) -> ReadOptions {
     with_word(w, &word[..n])
 }
 
-// At most three words stand behind the file's name.
+// At most three words are after the file's name.
 pub(crate) fn read_options() -> ReadOptions {
     let count = os::arg_count();
     let mut w = Options {

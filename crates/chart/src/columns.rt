@@ -44,7 +44,7 @@ fn column_at(t: Table, store: &[u8], write: bool, first: u64, offset: u64) -> Co
     }
 }
 
-// The offset behind a column. A chart ends where the longest request does, before the last byte of all.
+// The offset after a column. A chart ends where the longest request does, before the last byte of all.
 fn next_offset(offset: u64, length: u64) -> u64 {
     if LARGEST_SUM - offset < length {
         return LARGEST_SUM;

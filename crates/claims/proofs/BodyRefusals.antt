@@ -6,7 +6,7 @@ use mathlib.Core.List.{List, [], _∷_}
 use Rattle.base.specs.Iomodes.{grantIomodeOf}
 use Rattle.base.specs.Ranges.{rangeLast, requestLast}
 use Rattle.xdr.specs.Parsed.{Parsed}
-use Rattle.xdr.specs.Lists.{listAt}
+use Rattle.xdr.specs.CountedLists.{listAt}
 use Rattle.server.specs.Servers.{handlesAt, serverHeadAt, serverAt}
 use Rattle.layout.specs.Layouts.{frontAt, layoutAt, layoutBody, mirrorAt, mirrorsAt, tailAt}
 use Rattle.layout4.specs.Layout4s.{frameAt, layout4, layout4At, rangeAt}

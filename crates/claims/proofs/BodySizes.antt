@@ -80,7 +80,7 @@ tail-size s at v p h =
     let e : n .next ≡ p = same-offset (n .rest) in
     omega (arith, fn .end, hn .end, e)
 
--- a mirror behind the first takes some bytes
+-- a mirror after the first takes some bytes
 mirror-least : (n : ℕ) (s : List ℕ) (at : ℕ) (m : List Server) (p : ℕ) → mirrorAt n s at ≡ ok m p → at + 0 ≤ p
 unfolding mirrorAt
 mirror-least n s at m p h =

@@ -1,4 +1,4 @@
--- Where an I/O goes after a list of events, by the rights that the accepted ones give; and that no write goes where a recall stands unanswered.
+-- Where an I/O goes after a list of events, by the rights that the accepted ones give; and that no write goes where a recall is unanswered.
 use Prim.Native.Nat.{ℕ, zero, suc, _+_, _-_, _≤_, _<_}
 use mathlib.Core.Path.{_≡_, refl, sym, ap, ap₂, _∙_}
 use mathlib.Core.Bool.{Bool, true, false, _&&_, false≢true}

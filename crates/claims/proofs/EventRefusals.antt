@@ -23,10 +23,10 @@ use Rattle.slots.specs.declared.choice.SlotChoice.the-variants.{Holding, Free, 
 use Rattle.model.specs.Model.{Action, returns, recalls, Event, Grant, Return, Recall, Revoke, Model, Command, act, answerTo, answers, rightsAndSlots, grantCommand, meets, modelAfter, readCommand, rangeCommand, refuse, start, stops21, stops22, stops24, stops25, tooMany, verdict}
 use Rattle.soundness.specs.Sound.{sound}
 use Rattle.model.specs.Claim.{CallResult, Fits, answered}
-use Rattle.model.specs.AnyTable.{EndsBy}
+use Rattle.soundness.specs.AnyTable.{EndsBy}
 use Rattle.events.specs.Events.{eventResult, updateResult, grantUnder, grantDecision, commandResult, recallDecision, refusedWith, stage}
 use Rattle.events.specs.declared.decision.Update.{Update}
-use Rattle.events.specs.declared.decision.Update.the-variants as step
+use Rattle.events.specs.declared.decision.Update.the-variants as update
 use Rattle.refinement.proofs.Demand.{calls-meet-demand-3}
 use Rattle.refinement.proofs.WholeFile.{whole-revoke}
 use Rattle.claims.specs.Statements.{isOneOf}
@@ -136,7 +136,7 @@ module _ (t : Table) (store : List ℕ) where
   unfolding readCommand commandResult stage
   return-answers offset len number =
       if-sound {ns = 0 ∷ 20 ∷ 5 ∷ 3 ∷ 23 ∷ []} (Return offset len number) refl
-      (range-answers returns offset len number refl refl λ i last. change-answers step.Clear [] i offset last refl refl)
+      (range-answers returns offset len number refl refl λ i last. change-answers update.Clear [] i offset last refl refl)
       .listed
 
   pub recall-answers : (offset len number : ℕ) → isOneOf (eventResult (Recall offset len number) t store .answer) (0 ∷ 20 ∷ 5 ∷ 3 ∷ 25 ∷ 23 ∷ []) ≡ true
@@ -149,7 +149,7 @@ module _ (t : Table) (store : List ℕ) where
 
   revoke-change : AnswersIn (0 ∷ 20 ∷ 23 ∷ []) (eventResult Revoke t store)
   unfolding readCommand commandResult stage
-  revoke-change = if-sound Revoke refl (change-answers step.Clear [] Any 0 lastByte refl refl)
+  revoke-change = if-sound Revoke refl (change-answers update.Clear [] Any 0 lastByte refl refl)
 
   pub revoke-answers : Each (EndsBy lastByte) (listOf (t .read)) → Each (EndsBy lastByte) (listOf (t .rw))
       → isOneOf (eventResult Revoke t store .answer) (0 ∷ 20 ∷ []) ≡ true

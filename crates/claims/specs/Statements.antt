@@ -1,4 +1,4 @@
--- What the claims say of a refusal's number, of a place in a layout body, of a piece of an I/O in a table, of the
+-- What the claims say of a refusal's number, of an offset in a layout body, of a piece of an I/O in a table, of the
 -- mirror named, and of a grant of a byte.
 use Prim.Native.Nat.{ℕ, _+_, _-_, _≤_, _<_}
 use mathlib.Core.Path.{_≡_}
@@ -23,7 +23,7 @@ abbrev pub isOneOf : ℕ → List ℕ → Bool
 isOneOf n [] = false
 isOneOf n (k ∷ ks) = eqb n k || isOneOf n ks
 
--- a data server is read at this place, and its fields stand where RFC 8435 has them: 16, 20 and 36 bytes on
+-- a data server is read at this offset, and its fields are where RFC 8435 has them: 16, 20 and 36 bytes on
 pub record ServerAt (s : List ℕ) (at : ℕ) : Type 0 where
   pub server : Server
   pub next : ℕ
@@ -43,7 +43,8 @@ pub record PieceLies (write : Bool) (t : Table) (store : List ℕ) (offset len :
   pub first : getD (listIn t mode) index blank .first ≤ offset
   pub last : offset + p .length - 1 ≤ getD (listIn t mode) index blank .last
   pub right : getD (listIn t mode) index blank .right ≡ Granted (p .slot)
-  pub ends : (p .length ≡ len) ⊎ ((getD (listIn t mode) index blank .last ≡ offset + p .length - 1) ⊎ FillsUnit store offset p)
+  pub ends : (p .length ≡ len) ⊎ ((getD (listIn t mode) index blank .last ≡ offset + p .length - 1)
+      ⊎ FillsUnit store offset p)
   pub in-rw : write ≡ true → mode ≡ RW
 
 -- mirror b of the first n has the highest efficiency of them, and the lowest number of those that have it

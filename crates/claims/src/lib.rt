@@ -1,5 +1,5 @@
-// The theorems that the documents cite, each as the `ensures` of an empty function, so that it stands before a
-// reader's eyes and the gate fails if it goes. A statement needs only the definitions that it names.
+// The theorems that the documents cite, each as the `ensures` of an empty function, so that a
+// reader sees it and the gate fails if it goes. A statement needs only the definitions that it names.
 //
 // The three demands come first, then what follows from each. Of demand 1 "every call ends with an answer" and of
 // demand 2 the first sentence are the contracts themselves: no public function has a `requires`, each returns, and
@@ -40,14 +40,16 @@ ghost use Rattle.route.specs.Mirrors.{efficiencyOf};
 ghost use Rattle.route.specs.Rights.{servedByRights, servedOf};
 ghost use Rattle.route.specs.Routes.{iomodeFor, layoutIn, routed};
 ghost use Rattle.store.specs.Store.{bodyIn, slotAt, zeroStore};
-ghost use Rattle.model.specs.AnyTable.{EndsBy, OfModel, Typed, leftBy, modelOf};
+ghost use Rattle.model.specs.Invariants.{leftBy};
+ghost use Rattle.soundness.specs.AnyTable.{EndsBy, OfModel, Typed, modelOf};
 ghost use Rattle.model.specs.Claim.{Calls, Demand3, Fits, acceptedOf, answered, keptLeft, rightGiven, storeLeft};
 ghost use Rattle.model.specs.Cases as cases;
 ghost use Rattle.model.specs.Cases.{bodyOf, grantBytes};
 ghost use Rattle.model.specs.StandIns.{changesNothing, firstOnly, refusesAll};
 ghost use Rattle.base.specs.Answer.{isAccepted};
 ghost use Rattle.soundness.specs.Sound.{sound};
-ghost use Rattle.model.specs.Model.{Event, Grant, Command, Recall, Return, Revoke, rightsAndSlots, covers, granted, none, recalls, run, start, tableOf};
+ghost use Rattle.model.specs.Model.{Event, Grant, Command, Recall, Return, Revoke, rightsAndSlots, covers, granted};
+ghost use Rattle.model.specs.Model.{none, recalls, run, start, tableOf};
 ghost use Rattle.events.specs.Events.{eventResult};
 ghost use Rattle.examples.specs.Examples.{ExampleHolds, examples};
 ghost use Rattle.abi_table.specs.TableRecords.{recordOf, tableIn};
@@ -62,7 +64,8 @@ ghost use Rattle.claims.specs.Statements.{BestOf, PieceLies, ServerAt, g
 // Demand 1 of the events: a refused one leaves table and store as they were, whatever they are.
 pub fn refused_events_change_nothing()
     ensures { λ r. ⌜ ((e : Event) (t : Table) (store : List ℕ)
-        → (eventResult e t store .answer ≡ 0 → ⊥) → (eventResult e t store .kept ≡ t) × (eventResult e t store .store ≡ store)) ⌝ }
+        → (eventResult e t store .answer ≡ 0 → ⊥) → (eventResult e t store .kept ≡ t)
+        × (eventResult e t store .store ≡ store)) ⌝ }
 {}
 
 // Demand 1 of the exported events: a refused one gives back the record that it was handed, whatever that is, and
@@ -80,14 +83,17 @@ pub fn refused_reports_keep_the_output()
         → outputAfter out (reportsWritten count heads errors (length out)) ≡ out) ⌝ }
 {}
 
-// "Nothing else is refused", of bodies read and written: the numbers that each can be refused with. 0, which stands
-// for accepted, is none of them.
+// "Nothing else is refused", of bodies read and written: the numbers that each can be refused with. 0, which
+// means accepted, is none of them.
 pub fn bodies_refuse_as_listed()
-    ensures { λ r. ⌜ ((s : List ℕ) (n : ℕ) → layoutBody s ≡ refused n → isOneOf n (1 ∷ 2 ∷ 6 ∷ 8 ∷ 9 ∷ 10 ∷ 11 ∷ []) ≡ true)
-        × ((s : List ℕ) (n : ℕ) → layout4 s ≡ refused n → isOneOf n (1 ∷ 2 ∷ 3 ∷ 4 ∷ 5 ∷ 6 ∷ 8 ∷ 9 ∷ 10 ∷ 11 ∷ []) ≡ true)
+    ensures { λ r. ⌜ ((s : List ℕ) (n : ℕ) → layoutBody s ≡ refused n
+        → isOneOf n (1 ∷ 2 ∷ 6 ∷ 8 ∷ 9 ∷ 10 ∷ 11 ∷ []) ≡ true)
+        × ((s : List ℕ) (n : ℕ) → layout4 s ≡ refused n → isOneOf n (1 ∷ 2 ∷ 3 ∷ 4 ∷ 5 ∷ 6 ∷ 8 ∷ 9 ∷ 10 ∷ 11 ∷ [])
+        ≡ true)
         × ((s : List ℕ) (n : ℕ) → deviceBody s ≡ refused n → isOneOf n (1 ∷ 2 ∷ 6 ∷ 7 ∷ 8 ∷ 12 ∷ []) ≡ true)
         × ((s : List ℕ) (n : ℕ) → reportBody s ≡ refused n → isOneOf n (1 ∷ 2 ∷ 5 ∷ 8 ∷ 27 ∷ []) ≡ true)
-        × ((count : ℕ) (heads : List ReportHead) (errors : List ErrorEntry) (room n : ℕ) → reportsWritten count heads errors room ≡ refused n
+        × ((count : ℕ) (heads : List ReportHead) (errors : List ErrorEntry) (room n : ℕ)
+        → reportsWritten count heads errors room ≡ refused n
         → isOneOf n (5 ∷ 8 ∷ 26 ∷ 27 ∷ []) ≡ true) ⌝ }
 {}
 
@@ -109,7 +115,8 @@ pub fn events_refuse_as_listed()
         → isOneOf (eventResult (Return offset len number) t store .answer) (0 ∷ 20 ∷ 5 ∷ 3 ∷ 23 ∷ []) ≡ true)
         × ((t : Table) (store : List ℕ) (offset len number : ℕ)
         → isOneOf (eventResult (Recall offset len number) t store .answer) (0 ∷ 20 ∷ 5 ∷ 3 ∷ 25 ∷ 23 ∷ []) ≡ true)
-        × ((t : Table) (store : List ℕ) → Each (EndsBy lastByte) (listOf (t .read)) → Each (EndsBy lastByte) (listOf (t .rw))
+        × ((t : Table) (store : List ℕ) → Each (EndsBy lastByte) (listOf (t .read))
+        → Each (EndsBy lastByte) (listOf (t .rw))
         → isOneOf (eventResult Revoke t store .answer) (0 ∷ 20 ∷ []) ≡ true) ⌝ }
 {}
 
@@ -129,7 +136,8 @@ pub fn unsound_is_20()
 // "Nothing else is refused": an I/O request is refused with 20, 5 or 17. It reads the layout body of a granted
 // segment, and that never fails.
 pub fn requests_refuse_as_listed()
-    ensures { λ r. ⌜ ((write : Bool) (t : Table) (store : List ℕ) (offset len n : ℕ) → routed write t store offset len ≡ refused n
+    ensures { λ r. ⌜ ((write : Bool) (t : Table) (store : List ℕ) (offset len n : ℕ)
+        → routed write t store offset len ≡ refused n
         → (n ≡ 20) ⊎ (n ≡ 5) ⊎ (n ≡ 17)) ⌝ }
 {}
 
@@ -138,17 +146,18 @@ pub fn requests_refuse_as_listed()
 // "Each offset goes to the stripe and server of the sparse mapping, at full 64 bits": each byte x of an answered
 // piece has the stripe (x div unit) mod servers of the layout body in the answered slot, which is the stripe
 // answered; with one server it is 0. The stripe is below the server count and the mirrors are some of the layout's,
-// so that at (mirror, stripe) stands a data server (`starts_are_servers`).
+// so that at (mirror, stripe) is a data server (`starts_are_servers`).
 pub fn pieces_go_to_their_stripe()
     ensures { λ r. ⌜ ((write : Bool) (t : Table) (store : List ℕ) (offset len : ℕ) (p : Piece) (l : Layout)
         → routed write t store offset len ≡ accepted p → layoutIn store (p .slot .0) ≡ accepted l
         → (l .summary .servers ≡ 1 → p .stripe .0 ≡ 0)
-        × (1 < l .summary .servers → (x : ℕ) → offset ≤ x → x < offset + p .length → p .stripe .0 ≡ x / l .summary .unit % l .summary .servers)
+        × (1 < l .summary .servers → (x : ℕ) → offset ≤ x → x < offset + p .length → p .stripe .0
+        ≡ x / l .summary .unit % l .summary .servers)
         × (p .stripe .0 < l .summary .servers)
         × (1 ≤ p .mirrors) × (p .mirrors < 2 ^ l .summary .mirrors)) ⌝ }
 {}
 
-// At each used start of an accepted body stands a data server, its device id, efficiency, stateid and filehandle
+// At each used start of an accepted body is a data server, its device id, efficiency, stateid and filehandle
 // count where RFC 8435 has them.
 pub fn starts_are_servers()
     ensures { λ r. ⌜ ((s : List ℕ) (l : Layout) → layoutBody s ≡ accepted l
@@ -257,24 +266,28 @@ pub fn bodies_have_their_sizes()
         × ((s : List ℕ) (r : Report) → reportBody s ≡ accepted (r ∷ []) → r .head .errors ≡ 1 → length s ≡ 68) ⌝ }
 {}
 
-// Reading what was written gives the same reports, and at their places the same errors, for values that their fields
-// can hold. The first report stands at 4, behind the count.
+// Reading what was written gives the same reports, and at their offsets the same errors, for values that their fields
+// can hold. The first report is at 4, after the count.
 pub fn reports_written_are_read()
     ensures { λ r. ⌜ ((count : ℕ) (heads : List ReportHead) (errors : List ErrorEntry) (room : ℕ) (bs : List ℕ)
-        → Each HeadFits (take count heads) → Each EntryFits errors → reportsWritten count heads errors room ≡ accepted bs
-        → (reportBody bs ≡ accepted (reportsFrom (take count heads) 4)) × (entriesIn bs (reportsFrom (take count heads) 4) ≡ errors)) ⌝ }
+        → Each HeadFits (take count heads) → Each EntryFits errors → reportsWritten count heads errors room
+        ≡ accepted bs
+        → (reportBody bs ≡ accepted (reportsFrom (take count heads) 4))
+        × (entriesIn bs (reportsFrom (take count heads) 4) ≡ errors)) ⌝ }
 {}
 
 // Writing what was read gives the same bytes, so no two bodies have the same reports and errors. room: the output's
 // length.
 pub fn reports_read_are_written()
-    ensures { λ r. ⌜ ((bs : List ℕ) (reports : List Report) (room : ℕ) → AllBytes bs → length bs ≤ room → reportBody bs ≡ accepted reports
+    ensures { λ r. ⌜ ((bs : List ℕ) (reports : List Report) (room : ℕ) → AllBytes bs → length bs ≤ room
+        → reportBody bs ≡ accepted reports
         → reportsWritten (length reports) (headsOf reports) (entriesIn bs reports) room ≡ accepted bs) ⌝ }
 {}
 
 // A report body with nothing in it: eight zero bytes.
 pub fn no_report_is_eight_zeros()
-    ensures { λ r. ⌜ ((heads : List ReportHead) (room : ℕ) → 8 ≤ room → reportsWritten 0 heads [] room ≡ accepted (replicate 8 0))
+    ensures { λ r. ⌜ ((heads : List ReportHead) (room : ℕ) → 8 ≤ room → reportsWritten 0 heads [] room
+        ≡ accepted (replicate 8 0))
         × (reportBody (replicate 8 0) ≡ accepted []) ⌝ }
 {}
 
@@ -283,7 +296,8 @@ pub fn no_report_is_eight_zeros()
 // Where an I/O goes: an answered piece begins with its request, is not empty and not longer, and with more than one
 // server lies in one stripe unit.
 pub fn pieces_lie_in_request_and_unit()
-    ensures { λ r. ⌜ ((write : Bool) (t : Table) (store : List ℕ) (offset len : ℕ) (p : Piece) → routed write t store offset len ≡ accepted p
+    ensures { λ r. ⌜ ((write : Bool) (t : Table) (store : List ℕ) (offset len : ℕ) (p : Piece)
+        → routed write t store offset len ≡ accepted p
         → (1 ≤ p .length) × (p .length ≤ len) × (p .offset ≡ offset)
         × ((l : Layout) → layoutIn store (p .slot .0) ≡ accepted l → 1 < l .summary .servers
         → offset / l .summary .unit ≡ (offset + p .length - 1) / l .summary .unit)) ⌝ }
@@ -293,13 +307,15 @@ pub fn pieces_lie_in_request_and_unit()
 // write that iomode is RW. "The piece answered is the shortest of the request, the rest of that segment, and, with
 // more than one server, the rest of the stripe unit": it ends with one of these.
 pub fn pieces_lie_in_granted_segments()
-    ensures { λ r. ⌜ ((write : Bool) (t : Table) (store : List ℕ) (offset len : ℕ) (p : Piece) → routed write t store offset len ≡ accepted p
+    ensures { λ r. ⌜ ((write : Bool) (t : Table) (store : List ℕ) (offset len : ℕ) (p : Piece)
+        → routed write t store offset len ≡ accepted p
         → PieceLies write t store offset len p) ⌝ }
 {}
 
 // No write is answered for a byte that is recalled or not held.
 pub fn writes_need_a_grant()
-    ensures { λ r. ⌜ ((t : Table) (store : List ℕ) (offset len : ℕ) (p : Piece) → routed true t store offset len ≡ accepted p
+    ensures { λ r. ⌜ ((t : Table) (store : List ℕ) (offset len : ℕ) (p : Piece) → routed true t store offset len
+        ≡ accepted p
         → rightAt (listIn t RW) offset ≡ Granted (p .slot)) ⌝ }
 {}
 
@@ -336,7 +352,8 @@ pub fn sound_is_of_a_model()
 // change nothing, and of calls that obey any others while nothing is held and then answer as any others do and change
 // nothing.
 pub fn stand_ins_fall()
-    ensures { λ r. ⌜ ((number : Event → Table → List ℕ → ℕ) → ((e : Event) (t : Table) (store : List ℕ) → number e t store ≡ 0 → ⊥)
+    ensures { λ r. ⌜ ((number : Event → Table → List ℕ → ℕ)
+        → ((e : Event) (t : Table) (store : List ℕ) → number e t store ≡ 0 → ⊥)
         → Demand3 (λ t. t) emptyTable (rightsAndSlots lastByte) (refusesAll number) → ⊥)
         × ((call : Calls Table) → Demand3 (λ t. t) emptyTable (rightsAndSlots lastByte) (changesNothing call) → ⊥)
         × ((call later : Calls Table)
@@ -346,7 +363,8 @@ pub fn stand_ins_fall()
 // After every list of events table and store are sound.
 pub fn events_leave_sound_tables()
     ensures { λ r. ⌜ ((es : List Event) → Each Fits es
-        → sound (keptLeft eventResult es emptyTable zeroStore) (storeLeft eventResult es emptyTable zeroStore) ≡ true) ⌝ }
+        → sound (keptLeft eventResult es emptyTable zeroStore) (storeLeft eventResult es emptyTable zeroStore)
+        ≡ true) ⌝ }
 {}
 
 // "20 never comes": no event of a list from the empty table is answered 20.
@@ -375,7 +393,8 @@ pub fn records_stand_for_tables()
 // The exported events are the events: on the record of a table they leave the record of the table that `eventResult`
 // leaves.
 pub fn exported_events_are_the_events()
-    ensures { λ r. ⌜ ((e : Event) (t : Table) (store : List ℕ) → eventOnRecord e (recordOf t) store ≡ recorded (eventResult e t store)) ⌝ }
+    ensures { λ r. ⌜ ((e : Event) (t : Table) (store : List ℕ) → eventOnRecord e (recordOf t) store
+        ≡ recorded (eventResult e t store)) ⌝ }
 {}
 
 // The exported lookups are the lookups: on the record of a table they answer what `routed` does on the table.

@@ -1,4 +1,4 @@
--- What holds of a device body that is accepted: one to eight versions in eight places, and each fits.
+-- What holds of a device body that is accepted: one to eight versions in eight entries, and each fits.
 use Prim.Native.Nat.{ℕ}
 use mathlib.Core.Path.{_≡_, sym, ap, _∙_}
 use mathlib.Core.Bool.{true}

@@ -6,7 +6,7 @@ use borrow.Author.Tests.{le-leb, lt-leb, eq-eqb, ne-eqb}
 use lib.ListN.{length}
 use Rattle.base.specs.Answer.{accepted, refused, pick}
 use Rattle.xdr.specs.Parsed.{ok, fault, then, whole}
-use Rattle.xdr.specs.Lists.{Listed}
+use Rattle.xdr.specs.CountedLists.{Listed}
 use Rattle.device.specs.Bodies.{addressesAt, versionsAt, deviceAt, deviceBody}
 use Rattle.device.specs.declared.address.Address.{Address}
 use Rattle.device.specs.declared.version.Version.{Version}

@@ -9,13 +9,13 @@ use Rattle.device.specs.Netids.{classOf}
 use Rattle.device.specs.declared.address.Address.{Address}
 use Rattle.device.specs.declared.netid.NetidClass.the-variants.{Other}
 
--- the netid becomes its class; of the address, where it stands
+-- the netid becomes its class; of the address, where it is
 unfoldable pub addressAt : List ℕ → ℕ → Parsed Address
 addressAt s at =
     then (opaqueAt 1 longestNetid s at) λ netid p.
     then (opaqueAt 1 longestAddress s p) λ text q.
     ok (record { class = classOf (bytesFrom (netid .len) s (netid .start)); text = text }) q
 
--- what stands in a place without an address
+-- what is in an entry without an address
 abbrev pub blankAddress : Address
 blankAddress = record { class = Other; text = record { start = 0; len = 0 } }

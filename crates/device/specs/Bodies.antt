@@ -7,7 +7,7 @@ use lib.Dec.{leb}
 use Rattle.base.specs.Answer.{Answer, accepted, refused, pick}
 use Rattle.base.specs.Limits.{longestDeviceBody, mostAddresses, mostVersions}
 use Rattle.xdr.specs.Parsed.{Parsed, ok, then, whole}
-use Rattle.xdr.specs.Lists.{Listed, listAt}
+use Rattle.xdr.specs.CountedLists.{Listed, listAt}
 use Rattle.device.specs.Addresses.{addressAt, blankAddress}
 use Rattle.device.specs.Versions.{versionAt, blankVersion}
 use Rattle.device.specs.declared.address.Address.{Address}
@@ -21,7 +21,7 @@ addressesAt s at = listAt 1 mostAddresses addressAt blankAddress s at
 abbrev pub versionsAt : List ℕ → ℕ → Parsed (Listed Version)
 versionsAt s at = listAt 1 mostVersions versionAt blankVersion s at
 
--- the addresses and the versions of one data server, in 8 places each
+-- the addresses and the versions of one data server, in 8 entries each
 pub record Device : Type 0 where
   pub addressCount : ℕ
   pub addresses : List Address
@@ -39,7 +39,7 @@ deviceAt s at =
 unfoldable pub deviceBody : List ℕ → Answer Device
 deviceBody s = pick (leb (length s) longestDeviceBody) (whole s (deviceAt s 0)) (refused 8)
 
--- "A refusal gives its number, no other result": all places are blank then
+-- "A refusal gives its number, no other result": all entries are blank then
 abbrev pub addressesIn : Answer Device → List Address
 addressesIn (accepted d) = d .addresses
 addressesIn (refused n) = replicate mostAddresses blankAddress

@@ -1,4 +1,4 @@
--- What the reader's answer says: the value and the place after it, or the number.
+-- What the reader's answer says: the value and the offset after it, or the number.
 use Rattle.base.specs.Refusals.{faultNumber}
 use Rattle.xdr.specs.Parsed.{Parsed, ok, fault}
 use Rattle.device.specs.declared.version.Version.{Version}

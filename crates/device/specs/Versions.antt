@@ -20,7 +20,7 @@ fitsVersion4 v = eqb (v .version) 4 && leb (v .minor) 2
 unfoldable pub versionFits : Version → Bool
 versionFits v = leb 1 (v .rsize) && (leb 1 (v .wsize) && (fitsVersion3 v || fitsVersion4 v))
 
--- a version entry whose fields are read, up to the place behind it
+-- a version entry whose fields are read, up to the offset after it
 unfoldable pub checkedVersion : Version → ℕ → Parsed Version
 checkedVersion v at = pick (versionFits v) (ok v at) (fault 12)
 
@@ -34,6 +34,6 @@ versionAt s at =
     then (boolAt s u) λ tight v.
     checkedVersion (record { version = version; minor = minor; rsize = rsize; wsize = wsize; tight = tight }) v
 
--- what stands in a place without a version
+-- what is in an entry without a version
 abbrev pub blankVersion : Version
 blankVersion = record { version = 0; minor = 0; rsize = 0; wsize = 0; tight = false }

@@ -13,18 +13,18 @@ ghost use Rattle.base.specs.Refusals.{faultNumber};
 ghost use Rattle.device.specs.Addresses.{addressAt};
 ghost use Rattle.device.specs.AddressAnswers.{parsedOfAddress};
 
-// The class of the netid, and where the address text stands in the body.
+// The class of the netid, and where the address text is in the body.
 pub struct Address {
     pub class: NetidClass,
     pub text: Part,
 }
 
-pub enum ReadAddress {
+pub(crate) enum ReadAddress {
     Value(Address, Cursor),
     Refused(Fault),
 }
 
-pub fn read_address(s: &[u8], c: Cursor) -> ReadAddress
+pub(crate) fn read_address(s: &[u8], c: Cursor) -> ReadAddress
     ensures { λ r. ⌜ parsedOfAddress r ≡ addressAt (now (s .entry)) (c .at) ⌝ }
 {
     let first = xdr::read_opaque(s, c, 1, LONGEST_NETID);
@@ -47,7 +47,7 @@ pub fn read_address(s: &[u8], c: Cursor) -> ReadAddress
     )
 }
 
-pub fn fault_of_address(r: ReadAddress) -> Fault
+pub(crate) fn fault_of_address(r: ReadAddress) -> Fault
     ensures { λ e. ⌜ faultNumber e ≡ faultIn (parsedOfAddress r) ⌝ }
 {
     match r {

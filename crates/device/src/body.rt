@@ -19,15 +19,11 @@ use xdr::Part;
 use xdr::ReadU32;
 ghost use mathlib.Core.Path.{_≡_};
 ghost use mathlib.Core.List.{[]};
-ghost use lib.ListN.{replicate};
-ghost use Rattle.base.specs.Limits.{mostAddresses, mostVersions};
-ghost use Rattle.base.specs.Answer.{refusalIn, refused};
+ghost use Rattle.base.specs.Answer.{refusalIn};
 ghost use Rattle.base.specs.Refusals.{faultNumber};
 ghost use Rattle.xdr.specs.Answers.{parsedOfList};
-ghost use Rattle.device.specs.Addresses.{blankAddress};
-ghost use Rattle.device.specs.Versions.{blankVersion};
 ghost use Rattle.device.specs.Bodies.{addressesAt, versionsAt, deviceBody, addressesIn, versionsIn};
-ghost use Rattle.device.specs.Answers.{answerOfDevice, deviceOf};
+ghost use Rattle.device.specs.Answers.{RefusedDevice, answerOfDevice, deviceOf};
 
 // How many addresses and versions there are.
 pub enum DeviceAnswer {
@@ -35,20 +31,20 @@ pub enum DeviceAnswer {
     Refused(Fault),
 }
 
-// Unused places are blank, and all of them after a refusal.
+// Unused entries are blank, and all of them after a refusal.
 pub struct DeviceRead {
     pub answer: DeviceAnswer,
     pub addresses: [Address; ADDRESS_ENTRIES],
     pub versions: [Version; VERSION_ENTRIES],
 }
 
-// The count, and the addresses in the first places.
+// The count, and the addresses in the first entries.
 struct AddressList {
     answer: ReadU32,
     entries: [Address; ADDRESS_ENTRIES],
 }
 
-// The count, and the versions in the first places.
+// The count, and the versions in the first entries.
 struct VersionList {
     answer: ReadU32,
     entries: [Version; VERSION_ENTRIES],
@@ -130,9 +126,7 @@ fn read_versions(s: &[u8], c: Cursor) -> VersionList
 }
 
 fn refuse(e: Fault) -> DeviceRead
-    ensures { λ r. ⌜ (answerOfDevice r ≡ refused (faultNumber e))
-        × (r .addresses ≡ replicate mostAddresses blankAddress)
-        × (r .versions ≡ replicate mostVersions blankVersion) ⌝ }
+    ensures { λ r. ⌜ RefusedDevice e r ⌝ }
 {
     DeviceRead {
         answer: DeviceAnswer::Refused(e),
@@ -142,7 +136,9 @@ fn refuse(e: Fault) -> DeviceRead
 }
 
 pub fn read_device(s: &[u8]) -> DeviceRead
-    ensures { λ r. ⌜ (answerOfDevice r ≡ deviceBody (now (s .entry))) × (r .addresses ≡ addressesIn (deviceBody (now (s .entry)))) × (r .versions ≡ versionsIn (deviceBody (now (s .entry)))) ⌝ }
+    ensures { λ r. ⌜ (answerOfDevice r ≡ deviceBody (now (s .entry)))
+        × (r .addresses ≡ addressesIn (deviceBody (now (s .entry))))
+        × (r .versions ≡ versionsIn (deviceBody (now (s .entry)))) ⌝ }
 {
     if LONGEST_DEVICE_BODY < s.len() {
         return refuse(Fault::OutsideLimit);

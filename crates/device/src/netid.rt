@@ -12,7 +12,7 @@ pub enum NetidClass {
     Rdma6,
 }
 
-pub fn class_of(s: &[u8]) -> NetidClass
+pub(crate) fn class_of(s: &[u8]) -> NetidClass
     ensures { λ r. ⌜ r ≡ classOf (now (s .entry)) ⌝ }
 {
     if bytes::same(s, b"tcp") {

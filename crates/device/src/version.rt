@@ -17,7 +17,7 @@ pub struct Version {
     pub tight: bool,
 }
 
-pub enum ReadVersion {
+pub(crate) enum ReadVersion {
     Value(Version, Cursor),
     Refused(Fault),
 }
@@ -40,7 +40,7 @@ fn version_fits(v: Version) -> bool
 }
 
 // All five fields are read before the entry is judged.
-pub fn read_version(s: &[u8], c: Cursor) -> ReadVersion
+pub(crate) fn read_version(s: &[u8], c: Cursor) -> ReadVersion
     ensures { λ r. ⌜ parsedOfVersion r ≡ versionAt (now (s .entry)) (c .at) ⌝ }
 {
     let r1 = xdr::read_u32(s, c);
@@ -76,7 +76,7 @@ pub fn read_version(s: &[u8], c: Cursor) -> ReadVersion
     ReadVersion::Value(v, c5)
 }
 
-pub fn fault_of_version(r: ReadVersion) -> Fault
+pub(crate) fn fault_of_version(r: ReadVersion) -> Fault
     ensures { λ e. ⌜ faultNumber e ≡ faultIn (parsedOfVersion r) ⌝ }
 {
     match r {

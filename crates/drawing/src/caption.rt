@@ -1,4 +1,4 @@
-// What stands over a chart.
+// What is over a chart.
 use base::Iomode;
 use layout::Summary;
 use layout4::Layout4;

@@ -13,7 +13,7 @@ pub struct ChartInput {
     pub columns: Columns,
 }
 
-// Where in the file the device id of a mirror's server stands.
+// Where in the file the device id of a mirror's server is.
 pub(crate) fn device_at(s: ChartInput, m: MirrorNumber, k: StripeNumber) -> usize {
     let layout = s.layout;
     let body = layout.body;

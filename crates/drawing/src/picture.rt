@@ -38,13 +38,13 @@ const BETWEEN: u64 = 18;
 pub enum Layer {
     Offsets(u64),
     Lengths(u64),
-    // Lines from the first place to the second.
+    // Lines from the first point to the second.
     Lines(u64, u64),
     // The boxes of a mirror's and a stripe's server.
     Boxes(MirrorNumber, StripeNumber, u64),
 }
 
-// A place further on. No picture reaches the largest number.
+// A coordinate further on. No picture reaches the largest number.
 fn add_capped(value: u64, by: u64) -> u64 {
     if u64::MAX - value < by {
         return value;
@@ -77,7 +77,7 @@ fn print_mark(layer: Layer, c: Column, x: u64) {
     }
 }
 
-// A layer, column after column; the place behind the last column.
+// A layer, column after column; the coordinate after the last column.
 fn print_layer(layer: Layer, columns: Columns) -> u64 {
     let mut x = LEFT;
     let mut i: usize = 0;
@@ -115,7 +115,7 @@ fn label_room(digits: u64) -> u64 {
     room
 }
 
-// The place of the lanes' lower end.
+// The coordinate of the lanes' lower end.
 fn lower_end(summary: Summary, top: u64) -> u64 {
     let mut y = top;
     let mut m: u32 = 0;
@@ -144,7 +144,7 @@ fn print_server(bytes: &[u8], s: ChartInput, m: MirrorNumber, k: StripeNumber, y
     print_layer(Layer::Boxes(m, k, y), columns);
 }
 
-// The lanes of a mirror, from a place downwards; the place behind them.
+// The lanes of a mirror, from a coordinate downwards; the coordinate after them.
 fn print_mirror(bytes: &[u8], s: ChartInput, m: MirrorNumber, from: u64, width: u64) -> u64 {
     let summary = s.summary;
     let mut y = from;

@@ -63,8 +63,10 @@ pub fn write_error_list(
     errors: &[ErrorEntry],
     out: &mut [u8],
 ) -> Written
-    ensures { λ r. ⌜ (answerOfWritten r ≡ lengthOf (reportsWritten count heads (entriesOf (now (errors .entry))) (length (now (out .entry)))))
-        × (now (out .exit) ≡ outputAfter (now (out .entry)) (reportsWritten count heads (entriesOf (now (errors .entry))) (length (now (out .entry))))) ⌝ }
+    ensures { λ r. ⌜ (answerOfWritten r ≡ lengthOf
+        (reportsWritten count heads (entriesOf (now (errors .entry))) (length (now (out .entry)))))
+        × (now (out .exit) ≡ outputAfter (now (out .entry))
+        (reportsWritten count heads (entriesOf (now (errors .entry))) (length (now (out .entry))))) ⌝ }
 {
     let n = entries_used(errors.len());
     let mut entries = [0u8; ERROR_LIST_SIZE];

@@ -27,7 +27,7 @@ use Rattle.events.specs.declared.command.Action.the-variants as action
 use Rattle.events.specs.declared.outcome.Outcome.{Outcome}
 use Rattle.events.specs.declared.outcome.Verdict.the-variants.{Accepted, Refused}
 use Rattle.events.specs.declared.decision.Update.{Update}
-use Rattle.events.specs.declared.decision.Update.the-variants as step
+use Rattle.events.specs.declared.decision.Update.the-variants as update
 use Rattle.events.specs.Answers.{actionOf, resultOf}
 use Rattle.events.specs.Events.{bodyGranted, eventResult, updateResult, changeOf, otherBody, grantUnder, grantDecision, commandResult, recallDecision, refusedWith, decision, stage, storeAfter}
 
@@ -55,10 +55,10 @@ cleared-named was u store = refl
 pub stored-named : (s : Update) (b : Body) (named : List Bool) (t : Table) (is : ℕ → Bool) (store : List ℕ) → named ≡ namedSlots t
     → storeAfter s b (isSet named) is store ≡ storeAfter s b (isNamed t) is store
 unfolding clearedFrom namedSlots
-stored-named (step.GrantKnown i) b named t is store e = refl
-stored-named (step.GrantNew i) b named t is store e = refl
-stored-named step.Clear b named t is store e = rw e refl
-stored-named step.Recall b named t is store e = refl
+stored-named (update.GrantKnown i) b named t is store e = refl
+stored-named (update.GrantNew i) b named t is store e = refl
+stored-named update.Clear b named t is store e = rw e refl
+stored-named update.Recall b named t is store e = refl
 
 -- ---- what the rights say
 
@@ -110,7 +110,7 @@ module _ (t : Table) (store : List ℕ) where
   with-body action.Return b i first last s e = rw (← (same-answer e)) refl
   with-body action.Recall b i first last s e = go (tableMeets (satisfies Held) i first last t) e
     where
-      go : (m : Bool) → pick m (accepted step.Recall) (refused 25) ≡ accepted s
+      go : (m : Bool) → pick m (accepted update.Recall) (refused 25) ≡ accepted s
           → updateResult s b i first last t store ≡ updateResult s (bodyGranted (actionOf action.Recall b)) i first last t store
       go true f = rw (← (same-answer f)) refl
       go false f = never-accepted 25 s f

@@ -50,7 +50,7 @@ abbrev pub answerOfCommand : ReadCommand → List ℕ → Answer model.Command
 answerOfCommand (command.Value o) bytes = accepted (commandOf o bytes)
 answerOfCommand (command.Refused e) bytes = refused (faultNumber e)
 
--- the body of an command lies in n bytes
+-- the body of a command lies in n bytes
 abbrev pub BodyIn : ReadCommand → ℕ → Type 0
 BodyIn (command.Value o) n = o .body .start + o .body .len ≤ n
 BodyIn (command.Refused e) n = Unit {0}

@@ -25,7 +25,8 @@ pub(crate) enum Action {
 }
 
 // The span's first byte and len are the offset and the length as the event gives them; of a revoke, which gives none,
-// 0 and TO_THE_END. The body's place is that in a grant's bytes; of any other event it is 0, 0.
+// 0 and TO_THE_END. `body` is where a grant's body is in its bytes; of any other event start and
+// length are 0.
 pub(crate) struct Command {
     pub action: Action,
     pub span: Span,
@@ -64,7 +65,7 @@ fn grant_command(bytes: &[u8]) -> ReadCommand
     })
 }
 
-// Of a action that is no grant.
+// Of an action that is no grant.
 fn range_command(action: Action, n: Numbers) -> ReadCommand
     ensures { λ r. ⌜ ((bytes : List ℕ)
         → (answerOfCommand r bytes ≡ rangeCommand (actionOf action []) (n .offset) (n .len) (n .iomode))

@@ -17,7 +17,7 @@ ghost use Rattle.slots.specs.Slots.{slotChoice};
 ghost use Rattle.events.specs.Answers.{answerOfDecision, actionOf};
 ghost use Rattle.events.specs.Events.{otherBody, grantUnder, grantDecision, recallDecision, decision};
 
-// What an command does: a grant under the slot that holds its body, a grant whose body goes into a free slot, bytes
+// What a command does: a grant under the slot that holds its body, a grant whose body goes into a free slot, bytes
 // that become none, and a recall.
 pub enum Update {
     GrantKnown(SlotNumber),
@@ -31,21 +31,21 @@ pub(crate) enum Decision {
     Refused(Refusal),
 }
 
-// What stands in the way of a grant: bytes held under another slot; under any, where the body has none.
-fn other_body(h: SlotChoice) -> Condition
-    ensures { λ r. ⌜ r ≡ otherBody h ⌝ }
+// What prevents a grant: bytes held under another slot; under any, where the body has none.
+fn other_body(choice: SlotChoice) -> Condition
+    ensures { λ r. ⌜ r ≡ otherBody choice ⌝ }
 {
-    match h {
+    match choice {
         SlotChoice::Holding(s) => Condition::HeldElsewhere(s),
         SlotChoice::Free(_) => Condition::Held,
         SlotChoice::NoneLeft => Condition::Held,
     }
 }
 
-fn grant_under(h: SlotChoice) -> Decision
-    ensures { λ r. ⌜ answerOfDecision r ≡ grantUnder h ⌝ }
+fn grant_under(choice: SlotChoice) -> Decision
+    ensures { λ r. ⌜ answerOfDecision r ≡ grantUnder choice ⌝ }
 {
-    match h {
+    match choice {
         SlotChoice::Holding(s) => Decision::Allowed(Update::GrantKnown(s)),
         SlotChoice::Free(s) => Decision::Allowed(Update::GrantNew(s)),
         SlotChoice::NoneLeft => Decision::Refused(Refusal::NoFreeSlot),
@@ -64,15 +64,15 @@ fn decide_grant(
         ≡ grantDecision (slotChoice (now (body .entry)) (slotsIn t (now (store .entry))))
         (span .iomode) (span .first) (span .last) t ⌝ }
 {
-    let h = slots::choose_slot(named, store, body);
-    let other = other_body(h);
+    let choice = slots::choose_slot(named, store, body);
+    let other = other_body(choice);
     if lookup::meets(t, span, other) {
         return Decision::Refused(Refusal::HeldUnderOtherBody);
     }
     if lookup::meets(t, span, Condition::Recalled) {
         return Decision::Refused(Refusal::RecalledInRange);
     }
-    grant_under(h)
+    grant_under(choice)
 }
 
 fn decide_recall(t: Table, span: Span) -> Decision
@@ -94,7 +94,8 @@ pub(crate) fn decide(
 ) -> Decision
     requires { ⌜ named ≡ namedSlots t ⌝ }
     ensures { λ r. ⌜ answerOfDecision r
-        ≡ decision (actionOf action (now (body .entry))) (span .iomode) (span .first) (span .last) t (now (store .entry)) ⌝ }
+        ≡ decision (actionOf action (now (body .entry))) (span .iomode) (span .first) (span .last) t
+        (now (store .entry)) ⌝ }
 {
     match action {
         Action::Grant => decide_grant(t, named, store, span, body),

@@ -1,4 +1,4 @@
-// An event as it comes. The bytes of a grant stand beside it, since an enum holds no slice.
+// An event as it comes. The bytes of a grant are beside it, since an enum holds no slice.
 
 // What a return and a recall name.
 pub struct Numbers {

@@ -21,7 +21,7 @@ ghost use Rattle.lookup.specs.Lookup.{namedSlots};
 ghost use Rattle.events.specs.Answers.{eventOf, commandOf, resultOf};
 ghost use Rattle.events.specs.Events.{eventResult, commandResult};
 
-// The third stage and those behind it, on a table that is sound.
+// The third stage and those after it, on a table that is sound.
 fn apply_command(
     t: Table,
     named: [bool; SLOT_ENTRIES],
@@ -45,7 +45,7 @@ fn apply_command(
     apply_update(t, named, store, s, span, &bytes[start..end])
 }
 
-// A grant's bytes stand in `bytes`; those of another event are not looked at.
+// A grant's bytes are in `bytes`; those of another event are not looked at.
 pub fn apply(t: Table, store: &mut [u8], e: Event, bytes: &[u8]) -> Outcome
     ensures { λ r. ⌜ resultOf r (now (store .exit))
         ≡ eventResult (eventOf e (now (bytes .entry))) t (now (store .entry)) ⌝ }

@@ -39,7 +39,8 @@ fn update_store(
     body: &[u8],
 )
     ensures { λ r. ⌜ now (store .exit)
-        ≡ storeAfter s (now (body .entry)) (isSet was) (isNamed (record { read = read; rw = rw })) (now (store .entry)) ⌝ }
+        ≡ storeAfter s (now (body .entry)) (isSet was) (isNamed (record { read = read; rw = rw }))
+        (now (store .entry)) ⌝ }
 {
     match s {
         Update::GrantKnown(_) => {}

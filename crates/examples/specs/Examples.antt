@@ -34,7 +34,8 @@ tableWith rw = record { read = inEntries []; rw = inEntries rw }
 abbrev pub ExampleHolds : Example → Type 0
 ExampleHolds (Events c) = cases.CaseHolds c
 ExampleHolds (Write b rw offset len answer) =
-    given (routed true (tableWith rw) (storeOf (holds b ∷ replicate 7 empty)) offset len) (λ p. accepted (p .stripe .0, p .length)) ≡ answer
+    given (routed true (tableWith rw) (storeOf (holds b ∷ replicate 7 empty)) offset len)
+    (λ p. accepted (p .stripe .0, p .length)) ≡ answer
 ExampleHolds (Range offset len last) = rangeLast offset len ≡ last
 ExampleHolds (NoReport bytes) = reportsWritten 0 [] [] 4096 ≡ accepted bytes
 

@@ -1,4 +1,4 @@
--- What holds of an accepted body: its limits, which place of the table has which start, and that a data server stands there. Other places are 0.
+-- What holds of an accepted body: its limits, which index of the array has which start, and that a data server is there. Other entries are 0.
 use Prim.Native.Nat.{ℕ, zero, suc, _+_, _-_, _*_, _≤_, _<_}
 use mathlib.Core.Path.{_≡_, refl, sym, ap, _∙_}
 use mathlib.Core.Logic.{_⊎_, ⊎-elim}
@@ -99,7 +99,7 @@ rows-at (row ∷ ms) few (suc m) k small =
     let e : suc m * 16 + k ≡ length first + (m * 16 + k) = omega (arith, row-length row (few 0)) in
     rw (e, getD-append-add first (rows ms) (m * 16 + k) 0) (rows-at ms (λ j. few (suc j)) m k small)
 
--- mirror times 16 plus stripe is the place of a server's start
+-- mirror times 16 plus stripe is the index of a server's start
 pub starts-at : (ms : List (List Server)) → ((j : ℕ) → length (getD ms j []) ≤ 16) → (m k : ℕ) → k < 16
     → getD (startsOf ms) (m * 16 + k) 0 ≡ getD (map (λ v. v .device) (getD ms m [])) k 0
 unfolding startsOf
@@ -112,7 +112,7 @@ row-has n (row ∷ ms) each (suc m) = row-has n ms (each .1) m
 
 -- ---- the data server at a start
 
--- a data server was read at this place
+-- a data server was read at this offset
 pub record ServerReadAt (s : List ℕ) (at : ℕ) : Type 0 where
   pub server : Server
   pub next : ℕ
@@ -125,7 +125,7 @@ moved {s} g i = record { server = i .server; next = i .next; read = ap (λ (x : 
 abbrev pub starts : List Server → List ℕ
 starts m = map (λ v. v .device) m
 
--- each of a mirror's servers stands where its start says
+-- each of a mirror's servers is where its start says
 abbrev ServersReadAt : List ℕ → List Server → Type 0
 ServersReadAt s m = Each (ServerReadAt s) (starts m)
 
@@ -164,7 +164,7 @@ all-stand mirrors servers s at ms p some e m k hm hk =
 -- ---- one start out of the table
 
 module _ (table : List ℕ) (m k : ℕ) where
-  -- a stripe's start stands at mirror times 16 plus stripe
+  -- a stripe's start is at mirror times 16 plus stripe
   pub start-at : k < 16 → startAt table m k ≡ getD table (m * 16 + k) 0
   unfolding startAt pick
   start-at h = rw (lt-ltb k 16 h)
@@ -180,7 +180,7 @@ module _ (table : List ℕ) (m k : ℕ) where
       go (yes s) = start-at s ∙ List·getD-eq-default table 0 (omega arith)
       go (no s) = no-start-of-stripe (omega arith)
 
--- the place of mirror m and stripe k in the table
+-- the index of mirror m and stripe k in the table
 offset-of : (s : List ℕ) (l : Layout) (h : layoutBody s ≡ accepted l) (m k : ℕ) → k < 16
     → getD (l .starts) (m * 16 + k) 0 ≡ getD (starts (getD (accepted-parts s l h .mirrors) m [])) k 0
 offset-of s l h m k small =
@@ -190,10 +190,10 @@ offset-of s l h m k small =
     ap (λ (x : Layout). getD (x .starts) (m * 16 + k) 0) (sym (p .whole))
     ∙ starts-at (p .mirrors) (λ j. let few = row-has (p .front .servers) (p .mirrors) (r .each) j in omega (arith, few, f .servers-few)) m k small
 
--- at each used start stands a data server: its device id there, efficiency 16 bytes on, stateid 20, filehandle count 36 (`server-read`)
-pub start-stands : (s : List ℕ) (l : Layout) → layoutBody s ≡ accepted l
+-- at each used start is a data server: its device id there, efficiency 16 bytes on, stateid 20, filehandle count 36 (`server-read`)
+pub start-is-at : (s : List ℕ) (l : Layout) → layoutBody s ≡ accepted l
     → (m k : ℕ) → m < l .summary .mirrors → k < l .summary .servers → ServerReadAt s (startAt (l .starts) m k)
-start-stands s l h m k hm hk =
+start-is-at s l h m k hm hk =
     let p = accepted-parts s l h in
     let n = accepted-limits s l h in
     let em : p .front .mirrors ≡ l .summary .mirrors = ap (λ (x : Layout). x .summary .mirrors) (p .whole) in
@@ -205,7 +205,7 @@ start-stands s l h m k hm hk =
 
 -- ---- unused places
 
--- a place beyond the mirrors, or beyond a mirror's servers, holds 0
+-- an index beyond the mirrors, or beyond a mirror's servers, holds 0
 pub start-unused : (s : List ℕ) (l : Layout) → layoutBody s ≡ accepted l
     → (m k : ℕ) → k < 16 → (l .summary .mirrors ≤ m) ⊎ (l .summary .servers ≤ k) → startAt (l .starts) m k ≡ 0
 start-unused s l h m k small beyond =

@@ -32,7 +32,7 @@ module _ (n k : ℕ) (s : List ℕ) (at : ℕ) (t : List ℕ) where
 
 -- ---- mirrors
 
--- the servers of a mirror, then what follows from the place behind them
+-- the servers of a mirror, then what follows from the offset after them
 pub row-read : (k : ℕ) (x : Parsed (List Server)) (y : ℕ → Parsed (List (List Server))) (t t' : List ℕ) (p : ℕ) → withServers k x t ≡ ok t' p
     → withMirrors k (then x λ row p1. then (y p1) λ others p2. ok (row ∷ others) p2) t ≡ withMirrors (k + 16) (y p) t'
 unfolding withServers withMirrors setRows then

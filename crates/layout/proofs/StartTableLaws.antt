@@ -1,4 +1,4 @@
--- The table that the loops fill, started from zeros, is the definition's: rows of 16 places a mirror, then zeros.
+-- The table that the loops fill, started from zeros, is the definition's: rows of 16 entries a mirror, then zeros.
 use Prim.Native.Nat.{ℕ, suc, _+_, _-_, _*_, _≤_}
 use mathlib.Core.Path.{_≡_, refl, sym, ap, _∙_}
 use mathlib.Core.List.{List, [], _∷_, _++_, map, append-assoc}

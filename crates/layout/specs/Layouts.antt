@@ -28,11 +28,11 @@ frontAt s at =
     then (countAt 1 mostServers s p2) λ servers p3.
     pick (unitFits unit servers) (ok (record { unit = unit; mirrors = mirrors; servers = servers }) p3) (fault 10)
 
--- "all mirrors have the same server count": a mirror behind the first, which had n servers
+-- "all mirrors have the same server count": a mirror after the first, which had n servers
 unfoldable pub mirrorAt : ℕ → List ℕ → ℕ → Parsed (List Server)
 mirrorAt n s at = then (countAt 1 mostServers s at) λ count p. pick (eqb count n) (manyAt serverAt n s p) (fault 9)
 
--- the mirrors, from behind the first server count
+-- the mirrors, from after the first server count
 unfoldable pub mirrorsAt : ℕ → ℕ → List ℕ → ℕ → Parsed (List (List Server))
 mirrorsAt mirrors servers s at =
     then (manyAt serverAt servers s at) λ first p1.
@@ -43,9 +43,10 @@ mirrorsAt mirrors servers s at =
 unfoldable pub tailAt : List ℕ → ℕ → Parsed Tail
 tailAt s at =
     then (numAt 4 s at) λ flags p1.
-    pick (leb flags knownFlags) (then (numAt 4 s p1) λ hint p2. ok (record { flags = flags; hint = hint }) p2) (fault 11)
+    pick (leb flags knownFlags) (then (numAt 4 s p1) λ hint p2. ok (record { flags = flags; hint = hint }) p2)
+    (fault 11)
 
--- 16 places a mirror: where each of its servers starts, then zeros
+-- 16 entries a mirror: where each of its servers starts, then zeros
 unfoldable pub rows : List (List Server) → List ℕ
 rows [] = []
 rows (m ∷ ms) = padded mostServers 0 (map (λ v. v .device) m) ++ rows ms
@@ -55,7 +56,7 @@ rows (m ∷ ms) = padded mostServers 0 (map (λ v. v .device) m) ++ rows ms
 unfoldable pub startsOf : List (List Server) → List ℕ
 startsOf mirrors = padded mostStarts 0 (rows mirrors)
 
--- where a mirror's server of a stripe starts, in such a table: 0 beyond its places; no stripe reaches into the next
+-- where a mirror's server of a stripe starts, in such a table: 0 beyond its entries; no stripe reaches into the next
 -- mirror's
 unfoldable pub startAt : List ℕ → ℕ → ℕ → ℕ
 startAt starts mirror stripe = pick (ltb stripe mostServers) (getD starts (mirror * mostServers + stripe) 0) 0
@@ -72,7 +73,13 @@ layoutAt s =
     then (mirrorsAt (front .mirrors) (front .servers) s p1) λ mirrors p2.
     then (tailAt s p2) λ tail p3.
     ok (record {
-      summary = record { unit = front .unit; mirrors = front .mirrors; servers = front .servers; flags = tail .flags; hint = tail .hint };
+      summary = record {
+        unit = front .unit;
+        mirrors = front .mirrors;
+        servers = front .servers;
+        flags = tail .flags;
+        hint = tail .hint;
+      };
       starts = startsOf mirrors;
     }) p3
 

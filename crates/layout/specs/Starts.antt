@@ -10,7 +10,7 @@ use Rattle.server.specs.declared.item.Server.{Server}
 use Rattle.xdr.specs.declared.end.ReadEnd.{ReadEnd}
 use Rattle.xdr.specs.declared.end.ReadEnd.the-variants.{Value, Refused}
 
--- the table and the place behind what was read; a refusal says nothing of the table
+-- the table and the offset after what was read; a refusal says nothing of the table
 abbrev pub parsedOfStarts : ReadEnd → List ℕ → Parsed (List ℕ)
 parsedOfStarts (Value c) table = ok table (c .at)
 parsedOfStarts (Refused e) table = fault (faultNumber e)
@@ -19,7 +19,7 @@ parsedOfStarts (Refused e) table = fault (faultNumber e)
 unfoldable pub withServers : ℕ → Parsed (List Server) → List ℕ → Parsed (List ℕ)
 withServers k x table = then x λ servers at. ok (sets table k (map (λ v. v .device) servers)) at
 
--- each mirror 16 places behind the one before
+-- each mirror 16 entries after the one before
 unfoldable pub setRows : List ℕ → ℕ → List (List Server) → List ℕ
 setRows table k [] = table
 setRows table k (m ∷ ms) = setRows (sets table k (map (λ v. v .device) m)) (k + mostServers) ms

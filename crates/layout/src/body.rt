@@ -13,12 +13,10 @@ use xdr::Cursor;
 use xdr::ReadEnd;
 ghost use mathlib.Core.Path.{_≡_};
 ghost use mathlib.Core.List.{[]};
-ghost use Rattle.base.specs.Limits.{mostStarts};
 ghost use Rattle.base.specs.Answer.{refusalIn};
 ghost use Rattle.base.specs.Refusals.{faultNumber};
-ghost use lib.ListN.{replicate};
 ghost use Rattle.layout.specs.Layouts.{layoutBody};
-ghost use Rattle.layout.specs.Answers.{answerOfLayout, startsIn};
+ghost use Rattle.layout.specs.Answers.{RefusedLayout, answerOfLayout, startsIn};
 
 pub struct Summary {
     pub unit: u64,
@@ -33,14 +31,14 @@ pub enum LayoutAnswer {
     Refused(Fault),
 }
 
-// The start of a data server stands at the index mirror * 16 + stripe. Unused places are 0, and all after a refusal.
+// The start of a data server is at the index mirror * 16 + stripe. Unused entries are 0, and all after a refusal.
 pub struct LayoutRead {
     pub answer: LayoutAnswer,
     pub starts: [u16; MOST_STARTS],
 }
 
 fn refused(e: Fault) -> LayoutRead
-    ensures { λ r. ⌜ (r .answer ≡ LayoutAnswer.Refused e) × (r .starts ≡ replicate mostStarts 0) ⌝ }
+    ensures { λ r. ⌜ RefusedLayout e r ⌝ }
 {
     LayoutRead {
         answer: LayoutAnswer::Refused(e),

@@ -1,4 +1,4 @@
-// What stands before the first data server of a layout body, and behind the last.
+// What is before the first data server of a layout body, and after the last.
 use base::Fault;
 use base::KNOWN_FLAGS;
 use base::MOST_MIRRORS;

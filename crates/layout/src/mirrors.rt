@@ -26,7 +26,8 @@ fn read_servers(
     starts: &mut [u16; MOST_STARTS],
 ) -> ReadEnd
     requires { ⌜ (length (now s) ≤ longestBody) × (c .at ≤ length (now s)) × (first + n ≤ mostStarts) ⌝ }
-    ensures { λ r. ⌜ parsedOfStarts r (now (starts .exit)) ≡ withServers first (manyAt serverAt n (now (s .entry)) (c .at)) (now (starts .entry)) ⌝ }
+    ensures { λ r. ⌜ parsedOfStarts r (now (starts .exit))
+        ≡ withServers first (manyAt serverAt n (now (s .entry)) (c .at)) (now (starts .entry)) ⌝ }
 {
     let mut d = c;
     let mut left = n;
@@ -45,7 +46,7 @@ fn read_servers(
     ReadEnd::Value(d)
 }
 
-// A mirror behind the first: its count, then its n servers.
+// A mirror after the first: its count, then its n servers.
 fn read_mirror(
     s: &[u8],
     c: Cursor,
@@ -54,7 +55,8 @@ fn read_mirror(
     starts: &mut [u16; MOST_STARTS],
 ) -> ReadEnd
     requires { ⌜ (length (now s) ≤ longestBody) × (first + n ≤ mostStarts) ⌝ }
-    ensures { λ r. ⌜ parsedOfStarts r (now (starts .exit)) ≡ withServers first (mirrorAt n (now (s .entry)) (c .at)) (now (starts .entry)) ⌝ }
+    ensures { λ r. ⌜ parsedOfStarts r (now (starts .exit))
+        ≡ withServers first (mirrorAt n (now (s .entry)) (c .at)) (now (starts .entry)) ⌝ }
 {
     let r = xdr::read_count(s, c, 1, MOST_SERVERS);
     let ReadU32::Value(count, d) = r else {
@@ -66,7 +68,7 @@ fn read_mirror(
     read_servers(s, d, n, first, starts)
 }
 
-// All mirrors, from the first server on. The start of a server stands at the index mirror * 16 + stripe.
+// All mirrors, from the first server on. The start of a server is at the index mirror * 16 + stripe.
 pub(crate) fn read_mirrors(
     s: &[u8],
     c: Cursor,
@@ -76,7 +78,8 @@ pub(crate) fn read_mirrors(
 ) -> ReadEnd
     requires { ⌜ (length (now s) ≤ longestBody) × (c .at ≤ length (now s)) × (mirrors ≤ mostMirrors)
         × (servers ≤ mostServers) ⌝ }
-    ensures { λ r. ⌜ parsedOfStarts r (now (starts .exit)) ≡ withMirrors 0 (mirrorsAt mirrors servers (now (s .entry)) (c .at)) (now (starts .entry)) ⌝ }
+    ensures { λ r. ⌜ parsedOfStarts r (now (starts .exit))
+        ≡ withMirrors 0 (mirrorsAt mirrors servers (now (s .entry)) (c .at)) (now (starts .entry)) ⌝ }
 {
     let f = read_servers(s, c, servers, 0, starts);
     let ReadEnd::Value(c1) = f else {

@@ -7,7 +7,7 @@ use base::StripeNumber;
 ghost use mathlib.Core.Path.{_≡_};
 ghost use Rattle.layout.specs.Layouts.{startAt};
 
-// Out of the starts of a layout body; 0 for a mirror or a stripe that has no place among them.
+// Out of the starts of a layout body; 0 for a mirror or a stripe that is not among them.
 pub fn start_of(starts: [u16; MOST_STARTS], mirror: MirrorNumber, stripe: StripeNumber) -> u16
     ensures { λ r. ⌜ r ≡ startAt starts (mirror .0) (stripe .0) ⌝ }
 {

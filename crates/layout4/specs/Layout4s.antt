@@ -35,7 +35,7 @@ frameAt s at =
     ok (record { range = range; iomode = iomode; size = size }) p5)
     (fault 4)
 
--- frame: a layout4, in which `body` is where the body's bytes stand; body: the summary of what these bytes say
+-- frame: a layout4, in which `body` is where the body's bytes are; body: the summary of what these bytes say
 pub record WholeLayout : Type 0 where
   pub frame : Layout4
   pub body : Layout

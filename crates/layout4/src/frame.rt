@@ -1,4 +1,4 @@
-// What stands before the body of a layout4.
+// What is before the body of a layout4.
 use base::Fault;
 use base::Iomode;
 use base::LONGEST_BODY;

@@ -13,17 +13,16 @@ use xdr::Part;
 use xdr::ReadPart;
 ghost use mathlib.Core.Path.{_≡_};
 ghost use mathlib.Core.List.{[]};
-ghost use Rattle.base.specs.Limits.{mostStarts};
 ghost use Rattle.base.specs.Answer.{refusalIn};
 ghost use Rattle.base.specs.Refusals.{faultNumber};
 ghost use Prim.Native.Nat.{_+_};
 ghost use lib.Dec.{leb};
-ghost use lib.ListN.{length, replicate};
+ghost use lib.ListN.{length};
 ghost use Rattle.xdr.specs.Items.{padding};
 ghost use Rattle.layout4.specs.Layout4s.{layout4};
-ghost use Rattle.layout4.specs.Answers.{answerOfLayout4, startsOfWhole};
+ghost use Rattle.layout4.specs.Answers.{RefusedLayout4, answerOfLayout4, startsOfWhole};
 
-// Offset and length as on the wire, the last byte, and where the body stands.
+// Offset and length as on the wire, the last byte, and where the body is.
 pub struct Layout4 {
     pub offset: u64,
     pub length: u64,
@@ -44,7 +43,7 @@ pub struct Layout4Read {
 }
 
 fn refused(e: Fault) -> Layout4Read
-    ensures { λ r. ⌜ (r .answer ≡ Layout4Answer.Refused e) × (r .starts ≡ replicate mostStarts 0) ⌝ }
+    ensures { λ r. ⌜ RefusedLayout4 e r ⌝ }
 {
     Layout4Read {
         answer: Layout4Answer::Refused(e),
@@ -53,7 +52,13 @@ fn refused(e: Fault) -> Layout4Read
 }
 
 fn layout4_in(frame: Frame, body: Part) -> Layout4
-    ensures { λ r. ⌜ r ≡ record { offset = frame .range .offset; length = frame .range .length; last = frame .range .last; iomode = frame .iomode; body = body } ⌝ }
+    ensures { λ r. ⌜ r ≡ record {
+      offset = frame .range .offset;
+      length = frame .range .length;
+      last = frame .range .last;
+      iomode = frame .iomode;
+      body = body;
+    } ⌝ }
 {
     let range = frame.range;
     let iomode = frame.iomode;
@@ -66,7 +71,7 @@ fn layout4_in(frame: Frame, body: Part) -> Layout4
     }
 }
 
-// Whether n bytes and their padding stand at a place.
+// Whether n bytes and their padding are at an offset.
 fn enough(s: &[u8], at: usize, n: u32) -> bool
     ensures { λ r. ⌜ r ≡ leb (at + n + padding n) (length (now (s .entry))) ⌝ }
 {

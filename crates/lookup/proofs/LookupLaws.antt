@@ -1,4 +1,4 @@
--- Laws of lists of segments looked through from the front: how many there are, the next segment and the ones behind it, and none left.
+-- Laws of lists of segments looked through from the front: how many there are, the next segment and the ones after it, and none left.
 use Prim.Native.Nat.{ℕ, suc, _+_, _≤_, _<_, min}
 use mathlib.Core.Path.{_≡_, sym, ap, _∙_}
 use mathlib.Core.List.{[], _∷_}
@@ -13,7 +13,7 @@ use Rattle.segments.specs.Segments.{listOf}
 pub length-used : (g : Segments) → length (g .items) ≡ 32 → length (listOf g) ≡ min (g .count) 32
 length-used g h = rw (length-take (g .count) (g .items), h)
 
--- the segment in place k, and the ones behind it
+-- the segment at index k, and the ones after it
 pub next-segment : (g : Segments) (k : ℕ) (d : Segment) → k < length (listOf g) → drop k (listOf g) ≡ getD (g .items) k d ∷ drop (k + 1) (listOf g)
 next-segment g k d h =
     let e : length (listOf g) ≡ min (g .count) (length (g .items)) = length-take (g .count) (g .items) in

@@ -1,4 +1,4 @@
--- Laws of the slots that segments name: a slot marked, segment after segment, and what stands in each of the eight places.
+-- Laws of the slots that segments name: a slot marked, segment after segment, and what is in each of the eight entries.
 use Prim.Native.Nat.{ℕ, zero, suc, _+_, _≤_, _<_}
 use mathlib.Core.Path.{_≡_, refl, sym, ap, _∙_}
 use mathlib.Core.Bool.{Bool, true, false, _||_, or-assoc, or-comm, or-false}
@@ -66,6 +66,6 @@ pub all-named : (t : Table) (l : List Bool) → length l ≡ 8 → ((i : ℕ) �
 unfolding namedSlots
 all-named t l n h = ext-getD false l (namedSlots t) n (λ i b. let k : i < 8 = omega (arith, b, n) in h i k ∙ sym (named-at t i k))
 
--- what stands in a place of the eight is what the table says
+-- what is in an entry of the eight is what the table says
 pub named-here : (t : Table) (named : List Bool) (i : ℕ) → named ≡ namedSlots t → i < 8 → isNamed t i ≡ getD named i false
 named-here t named i e h = sym (ap (λ (l : List Bool). getD l i false) e ∙ named-at t i h)

@@ -7,19 +7,16 @@ use segments::Right;
 use segments::Segments;
 use segments::Table;
 ghost use mathlib.Core.Path.{_≡_};
-ghost use mathlib.Core.Bool.{false, _||_};
-ghost use Prim.Native.Nat.{ℕ, _<_};
+ghost use Prim.Native.Nat.{ℕ};
 ghost use lib.Dec.{eqb};
-ghost use lib.ListN.{getD, length};
+ghost use lib.ListN.{length};
 ghost use Rattle.base.specs.Limits.{slotCount};
 ghost use Rattle.segments.specs.Segments.{anyNames, isOfSlot, listOf};
-ghost use Rattle.lookup.specs.Lookup.{namedSlots};
+ghost use Rattle.lookup.specs.Lookup.{Marking, namedSlots};
 
 fn mark_slot(named: &mut [bool; SLOT_ENTRIES], s: SlotNumber)
     requires { ⌜ length (now named) ≡ slotCount ⌝ }
-    ensures { λ r. ⌜ (length (now (named .exit)) ≡ slotCount)
-        × ((i : ℕ) → i < slotCount → getD (now (named .exit)) i false
-        ≡ (eqb i (s .0) || getD (now (named .entry)) i false)) ⌝ }
+    ensures { λ r. ⌜ Marking (λ (i : ℕ). eqb i (s .0)) (now (named .entry)) (now (named .exit)) ⌝ }
 {
     if s.0 < SLOT_COUNT {
         let i = s.0 as usize;
@@ -29,9 +26,7 @@ fn mark_slot(named: &mut [bool; SLOT_ENTRIES], s: SlotNumber)
 
 fn mark(named: &mut [bool; SLOT_ENTRIES], right: Right)
     requires { ⌜ length (now named) ≡ slotCount ⌝ }
-    ensures { λ r. ⌜ (length (now (named .exit)) ≡ slotCount)
-        × ((i : ℕ) → i < slotCount → getD (now (named .exit)) i false
-        ≡ (isOfSlot i right || getD (now (named .entry)) i false)) ⌝ }
+    ensures { λ r. ⌜ Marking (λ (i : ℕ). isOfSlot i right) (now (named .entry)) (now (named .exit)) ⌝ }
 {
     match right {
         Right::None => {}
@@ -42,9 +37,7 @@ fn mark(named: &mut [bool; SLOT_ENTRIES], right: Right)
 
 fn mark_all(named: &mut [bool; SLOT_ENTRIES], g: Segments)
     requires { ⌜ length (now named) ≡ slotCount ⌝ }
-    ensures { λ r. ⌜ (length (now (named .exit)) ≡ slotCount)
-        × ((i : ℕ) → i < slotCount → getD (now (named .exit)) i false
-        ≡ (anyNames i (listOf g) || getD (now (named .entry)) i false)) ⌝ }
+    ensures { λ r. ⌜ Marking (λ (i : ℕ). anyNames i (listOf g)) (now (named .entry)) (now (named .exit)) ⌝ }
 {
     let n = segments::used_entries(g.count);
     let mut k: usize = 0;

@@ -21,12 +21,12 @@ use Rattle.segments.proofs.ScanLaws.{any-ext, any-none, segments-canon, segment
 use Rattle.segments.proofs.SegmentTests.{names-scan}
 use Rattle.store.specs.Store.{Body, Slot, empty, holds, bodyIn, slotAt, slotBytes, storeOf}
 use Rattle.store.proofs.SlotLaws.{body-back, length-empty, length-slot}
-use Rattle.store.proofs.StoreLaws.{AllWhole, slot-stands}
+use Rattle.store.proofs.StoreLaws.{AllWhole, slot-is-at}
 use Rattle.model.specs.Model.{ByteRight, none, granted, recalled, Model, anyByte, inSlots, isUnder, segmentsIn, slotOf, tableOf, withSlot}
 use Rattle.model.specs.SlotsShown.{allDistinct, slotsFrom, slotsIn}
 use Rattle.model.specs.Claim.{rightIn, underSlot, withBody}
 use Rattle.model.proofs.ModelSlotLaws.{empty-holds, held-body, held-slot, in-found}
-use Rattle.model.specs.AnyTable.{InSlot, Invariant}
+use Rattle.model.specs.Invariants.{InSlot, Invariant}
 
 -- ---- segments
 
@@ -121,8 +121,8 @@ module _ (N : ℕ) (M : Model) (v : Invariant N M) where
           (any-none (λ x. isOfSlot i (withSlot (M .slots) (M .right RW x))) (suc N) (λ x h. of-empty (M .slots) i (M .right RW x) e (v .in-slot RW x (omega arith))))
       go (holds b) e =
           ap₂ (λ (a b : Bool). a || b)
-          (any-ext (λ x. isOfSlot i (withSlot (M .slots) (M .right READ x))) (λ x. isUnder b (M .right READ x)) (suc N) (λ x h. of-slot (M .slots) i b (M .right READ x) (v .apart) e (v .in-slot READ x (omega arith))))
-          (any-ext (λ x. isOfSlot i (withSlot (M .slots) (M .right RW x))) (λ x. isUnder b (M .right RW x)) (suc N) (λ x h. of-slot (M .slots) i b (M .right RW x) (v .apart) e (v .in-slot RW x (omega arith))))
+          (any-ext (λ x. isOfSlot i (withSlot (M .slots) (M .right READ x))) (λ x. isUnder b (M .right READ x)) (suc N) (λ x h. of-slot (M .slots) i b (M .right READ x) (v .distinct) e (v .in-slot READ x (omega arith))))
+          (any-ext (λ x. isOfSlot i (withSlot (M .slots) (M .right RW x))) (λ x. isUnder b (M .right RW x)) (suc N) (λ x h. of-slot (M .slots) i b (M .right RW x) (v .distinct) e (v .in-slot RW x (omega arith))))
           ∙ v .named i b e
 
   pub fitting : Fitting (M .slots)
@@ -133,7 +133,7 @@ module _ (N : ℕ) (M : Model) (v : Invariant N M) where
   whole = fits-whole (M .slots) fitting
 
   pub slot-bytes : (i : ℕ) → i < 8 → slotAt (storeOf (M .slots)) i ≡ slotBytes (getD (M .slots) i empty)
-  slot-bytes i h = let e : length (M .slots) ≡ 8 = v .eight in slot-stands (M .slots) i whole (omega arith)
+  slot-bytes i h = let e : length (M .slots) ≡ 8 = v .eight in slot-is-at (M .slots) i whole (omega arith)
 
   slot-back : (i : ℕ) → i < 8 → pick (isNamed (tableOf N M) i) (holds (bodyIn (slotAt (storeOf (M .slots)) i))) empty ≡ getD (M .slots) i empty
   unfolding pick

@@ -22,8 +22,8 @@ use Rattle.model.specs.Model.{none, Event, Model, Command, ReferenceMode
 use Rattle.model.specs.SlotsShown.{slotsIn}
 use Rattle.model.specs.Claim.{Agreed, Calls, Confined, Demand3, EachConfined, Fits, Ordered, Showing, acceptedOf, answered, inReach, keptLeft, rightGiven, rightIn, storeLeft, withBody}
 use Rattle.model.proofs.ModelLaws.{Lawful, run-right}
-use Rattle.model.proofs.Bodies.{fewest-showing}
-use Rattle.model.specs.AnyTable.{Invariant, leftBy}
+use Rattle.model.proofs.ShortestLists.{fewest-showing}
+use Rattle.model.specs.Invariants.{Invariant, leftBy}
 use Rattle.model.proofs.Inv.{GoodCommand, after-keeps, no-segments, start-keeps}
 use Rattle.model.proofs.Decode.{model-canon, list-in, right-back, shown, slots-back, with-back}
 use Rattle.model.proofs.CommandLaws.{read-small}
@@ -89,7 +89,7 @@ module _ {L : Type 0} {ref : ReferenceModel L} {Holds : L → Type 0} (good : La
       → Invariant lastByte (ref .model (run ref es (ref .first))) × Holds (run ref es (ref .first))
   run-keeps es f = kept-after es (ref .first) f first-keeps (good .holds-first)
 
-  -- keep: what is kept of what the model keeps, in which its table stands
+  -- keep: what is kept of what the model keeps, in which its table is
   confined-step : {K : Type 0} (table : K → Table) (keep : L → K) → ((l : L) → table (keep l) ≡ tableOf lastByte (ref .model l))
       → (e : Event) (l : L) → Fits e → Invariant lastByte (ref .model l)
       → Confined table e (keep l) (storeOf (ref .model l .slots)) (leftBy ref keep e l)
@@ -154,7 +154,7 @@ module _ (M : Model) (v : Invariant lastByte M) where
 
 -- ---- a list of calls
 
--- keep: what is kept of what the model keeps, in which its table stands
+-- keep: what is kept of what the model keeps, in which its table is
 module _ {K L : Type 0} (table : K → Table) (first : K) {ref : ReferenceModel L} {Holds : L → Type 0} (good : Lawful ref Holds) (call : Calls K)
     (keep : L → K)
     (shows : (l : L) → table (keep l) ≡ tableOf lastByte (ref .model l))
@@ -218,7 +218,7 @@ module _ {K L : Type 0} (table : K → Table) (first : K) {ref : ReferenceModel 
             shows = λ m. rw (back, list m) (model-shows M kept m);
             fewest = λ m l k n.
                 rw (list m)
-                (fewest-showing (M .slots) (M .right m) (segmentsIn lastByte M m) l (kept .apart) (model-canon lastByte M m) (model-shows M kept m) (rw back at k) (λ e. n (e ∙ sym (list m))));
+                (fewest-showing (M .slots) (M .right m) (segmentsIn lastByte M m) l (kept .distinct) (model-canon lastByte M m) (model-shows M kept m) (rw back at k) (λ e. n (e ∙ sym (list m))));
             same-store = q;
           }
 

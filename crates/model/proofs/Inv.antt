@@ -18,8 +18,8 @@ use Rattle.segments.proofs.ScanLaws.{any-some}
 use Rattle.store.specs.Store.{Body, Slot, empty, holds}
 use Rattle.model.specs.Model.{ByteRight, none, granted, recalled, Action, grants, returns, recalls, revokes, Model, Command, act, afterAt, anyByte, covers, ifAccepted, ifNamed, isUnder, meets, modelAfter, placed, refuse, rightAfter, segmentsIn, start, stops21, stops22, stops24, stops25, tooMany, verdict}
 use Rattle.model.specs.SlotsShown.{allDistinct}
-use Rattle.model.specs.AnyTable.{GoodBody, InSlot, Invariant}
-use Rattle.model.proofs.ModelSlotLaws.{emptied-apart, emptied-held, granted-in, empty-holds, named-in, placed-apart, placed-held, placed-in, placed-length}
+use Rattle.model.specs.Invariants.{GoodBody, InSlot, Invariant}
+use Rattle.model.proofs.ModelSlotLaws.{emptied-distinct, emptied-held, granted-in, empty-holds, named-in, placed-distinct, placed-held, placed-in, placed-length}
 
 -- ---- bodies that an event may bring
 
@@ -72,21 +72,21 @@ unfolding allDistinct segmentsIn
 start-keeps N =
     record {
       eight = refl;
-      apart = refl;
+      distinct = refl;
       good = λ i b h. absurd (empty-holds b (sym (all-empty 8 i) ∙ h));
       in-slot = λ m x h. tt;
       few = λ m. rw (← no-segments N) (omega arith);
       named = λ i b h. absurd (empty-holds b (sym (all-empty 8 i) ∙ h));
     }
 
--- ---- an command that passes
+-- ---- a command that passes
 
 pub any-byte : (N : ℕ) (p : Mode → ℕ → Bool) (m : Mode) (x : ℕ) → x ≤ N → p m x ≡ true → anyByte N p ≡ true
 unfolding anyByte
 any-byte N p READ x h e = rw (any-some (p READ) (suc N) x (omega arith) e)
 any-byte N p RW x h e = rw (any-some (p RW) (suc N) x (omega arith) e) (or-true (anyBelow (p READ) (suc N)))
 
--- the body of a right after an command is in a slot, once the command's own is placed
+-- the body of a right after a command is in a slot, once the command's own is placed
 placed-in-slot : (ss : List Slot) (d : Action) (r : ByteRight) → stops24 d ss ≡ false → InSlot ss r → InSlot (placed d ss) (rightAfter d r)
 placed-in-slot ss (grants b) r n h = granted-in b ss n
 placed-in-slot ss returns r n h = tt
@@ -143,7 +143,7 @@ act-keeps N o M g p v =
     let ss = placed (o .action) (M .slots) in
     record {
       eight = length-map ss (ifNamed N right) ∙ (placed-length (o .action) (M .slots) ∙ v .eight);
-      apart = emptied-apart N right ss (placed-apart (o .action) (M .slots) (v .apart));
+      distinct = emptied-distinct N right ss (placed-distinct (o .action) (M .slots) (v .distinct));
       good = λ i b h. good-placed (o .action) (M .slots) g (v .good) i b (emptied-held N right b ss i h .0);
       in-slot = λ m x h. named-in-slot N right ss m x h (after-in-slot (M .slots) o m x (M .right m x) (p .not-24) (v .in-slot m x h));
       few = few-of N (act N o M) (p .not-23);

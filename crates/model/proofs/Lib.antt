@@ -1,7 +1,7 @@
 pub mod ModelSlotLaws
 pub mod SlotRights
 pub mod ModelLaws
-pub mod Bodies
+pub mod ShortestLists
 pub mod Inv
 pub mod Decode
 pub mod CommandLaws

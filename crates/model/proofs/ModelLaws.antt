@@ -8,7 +8,7 @@ use Rattle.base.specs.Ranges.{lastByte}
 use Rattle.segments.specs.Segments.{Mode}
 use Rattle.model.specs.Model.{ByteRight, Event, Model, Command, ReferenceModel, act, afterAt, answerTo, answers, rightsAndSlots, ifAccepted, modelAfter, readCommand, run, start, verdict}
 use Rattle.model.specs.Claim.{Fits, acceptedOf, acceptedCommand, rightGiven}
-use Rattle.model.specs.AnyTable.{Invariant}
+use Rattle.model.specs.Invariants.{Invariant}
 
 -- ---- what the laws of lists of events ask of a reference model
 
@@ -48,7 +48,7 @@ unfolding rightGiven
 given-append [] ps m x r = refl
 given-append (o ∷ os) ps m x r = given-append os ps m x (afterAt o m x r)
 
--- an answer to an command
+-- an answer to a command
 pub right-after : (N : ℕ) (a : Answer Command) (M : Model) (m : Mode) (x : ℕ)
     → modelAfter N a M .right m x ≡ rightGiven (acceptedCommand a (answerTo N a M)) m x (M .right m x)
 unfolding modelAfter answerTo acceptedCommand rightGiven act

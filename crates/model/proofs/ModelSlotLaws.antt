@@ -136,7 +136,7 @@ lowest-apart b (holds c ∷ ss) h a =
     let t = absent-tail b c ss h in
     rw (lowest-others b c ss (t .0), p .0) (lowest-apart b ss (t .1) (p .1))
 
--- ---- the slots after an command's body is placed
+-- ---- the slots after a command's body is placed
 
 pub placed-length : (d : Action) (ss : List Slot) → length (placed d ss) ≡ length ss
 unfolding pick
@@ -149,16 +149,16 @@ placed-length returns ss = refl
 placed-length recalls ss = refl
 placed-length revokes ss = refl
 
-pub placed-apart : (d : Action) (ss : List Slot) → allDistinct ss ≡ true → allDistinct (placed d ss) ≡ true
+pub placed-distinct : (d : Action) (ss : List Slot) → allDistinct ss ≡ true → allDistinct (placed d ss) ≡ true
 unfolding pick
-placed-apart (grants b) ss a = go (inSlots b ss) refl
+placed-distinct (grants b) ss a = go (inSlots b ss) refl
   where
     go : (t : Bool) → inSlots b ss ≡ t → allDistinct (pick t ss (inLowest b ss)) ≡ true
     go true e = a
     go false e = lowest-apart b ss e a
-placed-apart returns ss a = a
-placed-apart recalls ss a = a
-placed-apart revokes ss a = a
+placed-distinct returns ss a = a
+placed-distinct recalls ss a = a
+placed-distinct revokes ss a = a
 
 -- a body in a slot stays in it
 pub placed-in : (d : Action) (c : Body) (ss : List Slot) → inSlots c ss ≡ true → inSlots c (placed d ss) ≡ true
@@ -237,13 +237,13 @@ module _ (N : ℕ) (right : Mode → ℕ → ByteRight) where
       go true n k = rw n k
       go false n k = k
 
-  pub emptied-apart : (ss : List Slot) → allDistinct ss ≡ true → allDistinct (map (ifNamed N right) ss) ≡ true
+  pub emptied-distinct : (ss : List Slot) → allDistinct ss ≡ true → allDistinct (map (ifNamed N right) ss) ≡ true
   unfolding allDistinct ifNamed pick
-  emptied-apart [] a = refl
-  emptied-apart (empty ∷ ss) a = emptied-apart ss a
-  emptied-apart (holds c ∷ ss) a =
+  emptied-distinct [] a = refl
+  emptied-distinct (empty ∷ ss) a = emptied-distinct ss a
+  emptied-distinct (holds c ∷ ss) a =
       let p = both (not (inSlots c ss)) (allDistinct ss) a in
-      go (anyByte N (λ m x. isUnder c (right m x))) (emptied-in c ss (not-true (inSlots c ss) (p .0))) (emptied-apart ss (p .1))
+      go (anyByte N (λ m x. isUnder c (right m x))) (emptied-in c ss (not-true (inSlots c ss) (p .0))) (emptied-distinct ss (p .1))
     where
       go : (t : Bool) → inSlots c (map (ifNamed N right) ss) ≡ false → allDistinct (map (ifNamed N right) ss) ≡ true
           → allDistinct (pick t (holds c) empty ∷ map (ifNamed N right) ss) ≡ true

@@ -83,7 +83,7 @@ module _ (N L : ℕ) (longer : N ≤ L) where
   pick-same true = refl
   pick-same false = refl
 
-  -- an command that grants nothing past byte N leaves nothing held there
+  -- a command that grants nothing past byte N leaves nothing held there
   none-after : (d : Action) (i : Mode → Bool) (first last : ℕ) (m : Mode) (x : ℕ) → staysIn N d last ≡ true → N < x
       → pick (i m && within first last x) (rightAfter d none) none ≡ none
   unfolding staysIn pick

@@ -14,7 +14,7 @@ use Rattle.store.specs.Store.{Body, Slot, empty, holds}
 use Rattle.model.specs.Model.{ByteRight, granted, recalled, inSlots, isUnder, withSlot}
 use Rattle.model.specs.SlotsShown.{allDistinct}
 use Rattle.model.specs.Claim.{underSlot, withBody}
-use Rattle.model.specs.AnyTable.{InSlot}
+use Rattle.model.specs.Invariants.{InSlot}
 use Rattle.model.proofs.ModelSlotLaws.{held-in, held-slot}
 
 -- a slot that holds a body

@@ -1,4 +1,4 @@
--- The stand-ins do not meet demand 3: they fall to a grant of the whole file, one of them with a revoke behind it.
+-- The stand-ins do not meet demand 3: they fall to a grant of the whole file, one of them with a revoke after it.
 use Prim.Native.Nat.{ℕ, zero, suc, _<_}
 use mathlib.Core.Path.{_≡_, refl, sym, ap, ap₂, _∙_}
 use mathlib.Core.Bool.{Bool, true, false, _&&_, and-false, false≢true}
@@ -144,9 +144,9 @@ granted-by-it : rightGiven (acceptedOf (wholeFile ∷ []) (0 ∷ [])) RW 0 none 
 unfolding rightGiven acceptedOf acceptedCommand afterAt covers pick
 granted-by-it = rw whole-file-read refl
 
-revoked-behind-it : rightGiven (acceptedOf (wholeFile ∷ Revoke ∷ []) (0 ∷ 0 ∷ [])) RW 0 none ≡ none
+revoked-after-it : rightGiven (acceptedOf (wholeFile ∷ Revoke ∷ []) (0 ∷ 0 ∷ [])) RW 0 none ≡ none
 unfolding rightGiven acceptedOf acceptedCommand afterAt covers pick readCommand
-revoked-behind-it = rw whole-file-read refl
+revoked-after-it = rw whole-file-read refl
 
 no-right-shown : (t : Table) (store : List ℕ) (x : ℕ) → t .rw .count ≡ 0 → rightIn t store RW x ≡ none
 unfolding rightIn rightAt
@@ -211,4 +211,4 @@ module _ {K : Type 0} (table : K → Table) (first : K) where
       granted-not-none (bodyOf 0 1 0)
       (sym (still-shows call later d)
       ∙ (a .rights RW 0 (omega arith)
-      ∙ (ap (λ (ns : List ℕ). rightGiven (acceptedOf (wholeFile ∷ Revoke ∷ []) ns) RW 0 none) (a .same-answers ∙ both-accepted) ∙ revoked-behind-it)))
+      ∙ (ap (λ (ns : List ℕ). rightGiven (acceptedOf (wholeFile ∷ Revoke ∷ []) ns) RW 0 none) (a .same-answers ∙ both-accepted) ∙ revoked-after-it)))

@@ -10,13 +10,15 @@ use Rattle.segments.specs.declared.Right.the-variants as table
 use Rattle.segments.specs.declared.Segment.{Segment}
 use Rattle.segments.specs.Segments.{READ, RW}
 use Rattle.store.specs.Store.{Body}
-use Rattle.model.specs.Model.{Event, Grant, Return, Recall, Revoke, answers, rightsAndSlots, run, segmentsIn, start}
+use Rattle.model.specs.Model.{Event, Grant, Return, Recall, Revoke, answers, rightsAndSlots, run, segmentsIn}
+use Rattle.model.specs.Model.{start}
 
 -- so many data servers, each with one filehandle, in 56 bytes
 unfoldable pub servers : ℕ → List ℕ
 servers zero = []
 servers (suc n) =
-    replicate 16 7 ++ beBytes 4 0 ++ replicate 16 0 ++ beBytes 4 1 ++ beBytes 4 4 ++ replicate 4 9 ++ beBytes 4 0 ++ beBytes 4 0 ++ servers n
+    replicate 16 7 ++ beBytes 4 0 ++ replicate 16 0 ++ beBytes 4 1 ++ beBytes 4 4 ++ replicate 4 9 ++ beBytes 4 0
+    ++ beBytes 4 0 ++ servers n
 
 -- a layout body of one mirror with a unit and n servers; bodies with different hints are different
 unfoldable pub bodyOf : ℕ → ℕ → ℕ → Body
@@ -24,7 +26,8 @@ bodyOf unit n hint = beBytes 8 unit ++ beBytes 4 1 ++ beBytes 4 n ++ servers n +
 
 -- a layout4 of 108 bytes with a body of one server
 unfoldable pub grantBytes : ℕ → ℕ → ℕ → ℕ → List ℕ
-grantBytes offset len number hint = beBytes 8 offset ++ beBytes 8 len ++ beBytes 4 number ++ beBytes 4 4 ++ beBytes 4 80 ++ bodyOf 0 1 hint
+grantBytes offset len number hint =
+    beBytes 8 offset ++ beBytes 8 len ++ beBytes 4 number ++ beBytes 4 4 ++ beBytes 4 80 ++ bodyOf 0 1 hint
 
 -- the grant of a range in an iomode, by its number, under the body with a hint
 abbrev pub grantEvent : ℕ → ℕ → ℕ → ℕ → Event
@@ -78,7 +81,8 @@ cases =
     }
     -- a byte held under another body is 21, a recalled one 22, and before either the range is judged, then the iomode
     ∷ record {
-      events = grantEvent 0 100 2 0 ∷ Recall 10 10 2 ∷ grantEvent 15 10 2 1 ∷ grantEvent 15 10 2 0 ∷ Return 0 0 9 ∷ Return 0 1 9 ∷ [];
+      events = grantEvent 0 100 2 0 ∷ Recall 10 10 2 ∷ grantEvent 15 10 2 1 ∷ grantEvent 15 10 2 0 ∷ Return 0 0 9
+          ∷ Return 0 1 9 ∷ [];
       numbers = 0 ∷ 0 ∷ 21 ∷ 22 ∷ 5 ∷ 3 ∷ [];
       read = [];
       rw = grantedIn 0 0 9 ∷ recalledIn 0 10 19 ∷ grantedIn 0 20 99 ∷ [];
@@ -88,7 +92,8 @@ cases =
       events = bodiesFrom 8 0 ++ (grantEvent 8 1 2 8 ∷ Return 3 1 2 ∷ grantEvent 8 1 2 8 ∷ []);
       numbers = 0 ∷ 0 ∷ 0 ∷ 0 ∷ 0 ∷ 0 ∷ 0 ∷ 0 ∷ 24 ∷ 0 ∷ 0 ∷ [];
       read = [];
-      rw = grantedIn 0 0 0 ∷ grantedIn 1 1 1 ∷ grantedIn 2 2 2 ∷ grantedIn 4 4 4 ∷ grantedIn 5 5 5 ∷ grantedIn 6 6 6 ∷ grantedIn 7 7 7 ∷ grantedIn 3 8 8 ∷ [];
+      rw = grantedIn 0 0 0 ∷ grantedIn 1 1 1 ∷ grantedIn 2 2 2 ∷ grantedIn 4 4 4 ∷ grantedIn 5 5 5
+          ∷ grantedIn 6 6 6 ∷ grantedIn 7 7 7 ∷ grantedIn 3 8 8 ∷ [];
     }
     -- "A grant whose body is on the shelf uses that slot; otherwise the lowest unnamed one."
     ∷ record {

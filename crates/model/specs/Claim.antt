@@ -15,7 +15,9 @@ use Rattle.segments.specs.declared.Segment.{Segment}
 use Rattle.segments.specs.declared.Table.{Table}
 use Rattle.segments.specs.Segments.{Mode, listIn, rightAt}
 use Rattle.store.specs.Store.{Slot, empty, holds, storeOf, zeroStore, Body}
-use Rattle.model.specs.Model.{ByteRight, none, granted, recalled, Model, Event, Grant, Return, Recall, Revoke, Command, ReferenceModel, afterAt, answers, covers, ifAccepted, readCommand, run, tableOf}
+use Rattle.model.specs.Model.{ByteRight, none, granted, recalled, Model, Event, Grant, Return, Recall, Revoke}
+use Rattle.model.specs.Model.{Command, ReferenceModel, afterAt, answers, covers, ifAccepted, readCommand, run}
+use Rattle.model.specs.Model.{tableOf}
 use Rattle.model.specs.SlotsShown.{slotsIn}
 
 -- what a call gives: its answer (0 for accepted), what is kept of the file, and the store
@@ -28,7 +30,8 @@ pub record CallResult (K : Type 0) : Type 0 where
 abbrev pub Calls : Type 0 → Type 0
 Calls K = Event → K → List ℕ → CallResult K
 
--- ---- events as the calls' types have them: a grant's bytes are bytes, an offset is below 2^64 (any length and iomode number will do)
+-- ---- events as the calls' types have them: a grant's bytes are bytes, an offset is below 2^64 (any length and
+-- iomode number will do)
 
 abbrev pub Fits : Event → Type 0
 Fits (Grant bytes) = AllBytes bytes
@@ -59,7 +62,7 @@ unfoldable pub acceptedCommand : Answer Command → ℕ → List Command
 acceptedCommand (accepted o) answer = ifAccepted answer (o ∷ []) []
 acceptedCommand (refused n) answer = []
 
--- the orders of the accepted events of a list, by their own bytes and numbers
+-- the commands of the accepted events of a list, by their own bytes and numbers
 unfoldable pub acceptedOf : List Event → List ℕ → List Command
 acceptedOf [] ns = []
 acceptedOf (e ∷ es) [] = []

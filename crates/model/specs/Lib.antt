@@ -1,6 +1,6 @@
 pub mod Model
 pub mod SlotsShown
 pub mod Claim
-pub mod AnyTable
+pub mod Invariants
 pub mod Cases
 pub mod StandIns

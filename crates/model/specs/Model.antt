@@ -97,7 +97,7 @@ rightAfter recalls (granted b) = recalled b
 rightAfter recalls (recalled b) = recalled b
 rightAfter revokes r = none
 
--- the right of byte x in iomode m after an command, from the right r before it
+-- the right of byte x in iomode m after a command, from the right r before it
 unfoldable pub afterAt : Command → Mode → ℕ → ByteRight → ByteRight
 afterAt o m x r = pick (covers o m x) (rightAfter (o .action) r) r
 
@@ -267,9 +267,14 @@ pub record ReferenceModel (L : Type 0) : Type 0 where
 
 -- rights and slots and nothing else, "fed only the events' own bytes and numbers"
 abbrev pub rightsAndSlots : ℕ → ReferenceModel Model
-rightsAndSlots N = record { first = start; model = λ M. M; command = λ e M. readCommand e; next = λ e M. modelAfter N (readCommand e) M }
+rightsAndSlots N = record {
+  first = start;
+  model = λ M. M;
+  command = λ e M. readCommand e;
+  next = λ e M. modelAfter N (readCommand e) M;
+}
 
--- the answers to a list of events: an command is judged by rights and slots
+-- the answers to a list of events: a command is judged by rights and slots
 unfoldable pub answers : {L : Type 0} → ℕ → ReferenceModel L → List Event → L → List ℕ
 answers N ref [] l = []
 answers N ref (e ∷ es) l = answerTo N (ref .command e l) (ref .model l) ∷ answers N ref es (ref .next e l)

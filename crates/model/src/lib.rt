@@ -1,1 +1,1 @@
-// The reference model of demand 3, soundness, and what demand 3 says: definitions and laws, no code.
+// The reference model of demand 3, and what demand 3 says: definitions and laws, no code.

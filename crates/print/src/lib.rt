@@ -16,7 +16,7 @@ pub fn print_text(text: &[u8]) {
     io::write_all(STDOUT_FILENO, text);
 }
 
-// What stands between the members of a list, before member i.
+// What is between the members of a list, before member i.
 pub fn print_between(text: &[u8], i: usize) {
     if i != 0 {
         print_text(text);
@@ -27,13 +27,13 @@ pub fn print_number(v: u64) {
     io::print_decimal(STDOUT_FILENO, v);
 }
 
-// A number behind its name.
+// A number after its name.
 pub fn print_field(name: &[u8], v: u64) {
     print_text(name);
     print_number(v);
 }
 
-// Where the next '#' of a text stands, from a place on; its end where there is none.
+// Where the next '#' of a text is, from an offset on; its end where there is none.
 fn mark_from(text: &[u8], from: usize) -> usize
     ensures { λ r. ⌜ r ≤ length (now (text .entry)) ⌝ }
 {
@@ -47,7 +47,7 @@ fn mark_from(text: &[u8], from: usize) -> usize
     text.len()
 }
 
-// A text with a number in the place of each '#'.
+// A text with a number in place of each '#'.
 pub fn print_fields(text: &[u8], values: &[u64]) {
     let mut from: usize = 0;
     let mut k: usize = 0;
@@ -79,7 +79,7 @@ pub fn print_hex(bytes: &[u8]) {
     }
 }
 
-// The device id at a place; nothing where its bytes run out.
+// The device id at an offset; nothing where its bytes run out.
 pub fn print_device_id(bytes: &[u8], at: usize) {
     if bytes.len() < at {
         return;
@@ -91,7 +91,7 @@ pub fn print_device_id(bytes: &[u8], at: usize) {
     print_hex(&bytes[at..end]);
 }
 
-// A refusal, behind what was asked.
+// A refusal, after what was asked.
 pub fn print_refused(e: Refusal) {
     print_field(b" refused ", base::number(e) as u64);
 }

@@ -8,7 +8,8 @@ use Rattle.segments.specs.declared.Table.{Table}
 use Rattle.model.specs.Model.{Event, rightsAndSlots, tableOf}
 use Rattle.soundness.specs.Sound.{sound}
 use Rattle.model.specs.Claim.{Fits}
-use Rattle.model.specs.AnyTable.{Typed, leftBy, modelOf}
+use Rattle.model.specs.Invariants.{leftBy}
+use Rattle.soundness.specs.AnyTable.{Typed, modelOf}
 use Rattle.soundness.proofs.SoundParts.{sounds}
 use Rattle.soundness.proofs.FromSound.{sound-keeps, store-of-sound, table-of-sound}
 use Rattle.events.specs.Events.{eventResult}

@@ -7,4 +7,4 @@ use Rattle.table.specs.declared.change.Change.{Change}
 use Rattle.table.specs.Edits.{changedRight}
 
 unfoldable pub changedFun : Change → ℕ → ℕ → (ℕ → Right) → ℕ → Right
-changedFun c lo hi f x = pick (within lo hi x) (changedRight c (f x)) (f x)
+changedFun c first last f x = pick (within first last x) (changedRight c (f x)) (f x)

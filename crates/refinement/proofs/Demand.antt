@@ -8,7 +8,7 @@ use Rattle.segments.specs.Segments.{emptyTable}
 use Rattle.store.specs.Store.{storeOf}
 use Rattle.model.specs.Model.{Event, Model, Command, answerTo, rightsAndSlots, modelAfter, readCommand, tableOf}
 use Rattle.model.specs.Claim.{CallResult, Demand3, Fits}
-use Rattle.model.specs.AnyTable.{Invariant, leftBy}
+use Rattle.model.specs.Invariants.{Invariant, leftBy}
 use Rattle.model.proofs.Inv.{GoodCommand}
 use Rattle.soundness.proofs.SoundLaws.{model-sound}
 use Rattle.model.proofs.CommandLaws.{read-range, read-small}
@@ -17,7 +17,7 @@ use Rattle.model.proofs.FromStep.{demand-3, start-table}
 use Rattle.events.specs.Events.{eventResult, commandResult, stage}
 use Rattle.refinement.proofs.UpdateLaws.{command-met}
 
--- the model's answer to an command or a refusal, and its table and store afterwards
+-- the model's answer to a command or a refusal, and its table and store afterwards
 abbrev modelStep : Answer Command → Model → CallResult Table
 modelStep a M = record {
   answer = answerTo lastByte a M;

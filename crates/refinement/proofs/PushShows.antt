@@ -56,14 +56,14 @@ joined-shows a s m x f g h k = go (decLe (a .first) x) (decLe x (a .last)) (decL
 
 -- a push with the segments m still to come: canonical, rising with m, and the same to see
 abbrev Pushed : ℕ → Right → List Segment → List Segment → List Segment → Type 0
-Pushed lo r out m all = Canon lo r out × Ord lo (out ++ m) × ((x : ℕ) → rightAt (out ++ m) x ≡ rightAt all x)
+Pushed first r out m all = Canon first r out × Ord first (out ++ m) × ((x : ℕ) → rightAt (out ++ m) x ≡ rightAt all x)
 
-pushTo-shows : (lo : ℕ) (r : Right) (a : Segment) (l : List Segment) (s : Segment) (m : List Segment) → Ord lo (a ∷ (l ++ (s ∷ m))) → Canon lo r (a ∷ l)
-    → Pushed lo r (pushTo a l s) m (a ∷ (l ++ (s ∷ m)))
+pushTo-shows : (first : ℕ) (r : Right) (a : Segment) (l : List Segment) (s : Segment) (m : List Segment) → Ord first (a ∷ (l ++ (s ∷ m))) → Canon first r (a ∷ l)
+    → Pushed first r (pushTo a l s) m (a ∷ (l ++ (s ∷ m)))
 unfolding pushTo Canon Ord pick
-pushTo-shows lo r a [] s m o c = go (touching a s) refl
+pushTo-shows first r a [] s m o c = go (touching a s) refl
   where
-    go : (b : Bool) → touching a s ≡ b → Pushed lo r (pick b (joined a s ∷ []) (a ∷ s ∷ [])) m (a ∷ s ∷ m)
+    go : (b : Bool) → touching a s ≡ b → Pushed first r (pick b (joined a s ∷ []) (a ∷ s ∷ [])) m (a ∷ s ∷ m)
     go true e =
         let t = touching-true a s e in
         let o3 = o .3 in (
@@ -72,7 +72,7 @@ pushTo-shows lo r a [] s m o c = go (touching a s) refl
           λ x. joined-shows a s m x (o .1) (o3 .1) (t .0) (t .1),
         )
     go false e = let o3 = o .3 in ((o .0, o .1, c .2, c .3, (o3 .0, o3 .1, o3 .2, touching-false a s e, tt)), o, λ x. refl)
-pushTo-shows lo r a (b ∷ l) s m o c =
+pushTo-shows first r a (b ∷ l) s m o c =
     let h = pushTo-shows (suc (a .last)) (a .right) b l s m (o .3) (c .4) in (
       (c .0, c .1, c .2, c .3, h .0),
       (o .0, o .1, o .2, h .1),

@@ -13,15 +13,15 @@ use Rattle.table.specs.Edits.{changedRight}
 use Rattle.store.specs.Store.{Body, Slot}
 use Rattle.model.specs.Model.{ByteRight, none, granted, recalled, Model, Command, Action, grants, returns, recalls, revokes, act, afterAt, anyByte, covers, inSlots, isUnder, placed, rightAfter, slotOf, withSlot}
 use Rattle.model.proofs.ModelSlotLaws.{named-slot, placed-slot}
-use Rattle.model.specs.AnyTable.{InSlot}
+use Rattle.model.specs.Invariants.{InSlot}
 use Rattle.model.proofs.Inv.{any-byte}
 
 -- what an event makes of the table, given the slot of its body
-abbrev pub changeOf : Action → ℕ → Change
-changeOf (grants b) s = change.Grant (record { 0 = s })
-changeOf returns s = change.Clear
-changeOf recalls s = change.Recall
-changeOf revokes s = change.Clear
+abbrev pub changeFor : Action → ℕ → Change
+changeFor (grants b) s = change.Grant (record { 0 = s })
+changeFor returns s = change.Clear
+changeFor recalls s = change.Recall
+changeFor revokes s = change.Clear
 
 -- the slot of a granted body is s
 abbrev pub ChoiceIs : Action → List Slot → ℕ → Type 0
@@ -52,7 +52,7 @@ module _ (N : ℕ) where
 
     changed : (d : Action) (s : ℕ) (m : Mode) (x : ℕ) (r : ByteRight) → o .action ≡ d → ChoiceIs d (M .slots) s → x ≤ N → InSlot (M .slots) r
         → act N o M .right m x ≡ rightAfter d r
-        → withSlot (act N o M .slots) (rightAfter d r) ≡ changedRight (changeOf d s) (withSlot (M .slots) r)
+        → withSlot (act N o M .slots) (rightAfter d r) ≡ changedRight (changeFor d s) (withSlot (M .slots) r)
     unfolding act
     changed (grants b) s m x r f g k h e =
         let n = body-named m x (granted b) b k e (same-refl b) in
@@ -71,12 +71,12 @@ module _ (N : ℕ) where
 
     pub rights-agree : (s : ℕ) → ChoiceIs (o .action) (M .slots) s → (m : Mode) (x : ℕ) → x ≤ N → InSlot (M .slots) (M .right m x)
         → withSlot (act N o M .slots) (afterAt o m x (M .right m x))
-        ≡ pick (covers o m x) (changedRight (changeOf (o .action) s) (withSlot (M .slots) (M .right m x))) (withSlot (M .slots) (M .right m x))
+        ≡ pick (covers o m x) (changedRight (changeFor (o .action) s) (withSlot (M .slots) (M .right m x))) (withSlot (M .slots) (M .right m x))
     unfolding afterAt pick
     rights-agree s g m x k h = go (covers o m x) refl
       where
         go : (c : Bool) → covers o m x ≡ c
             → withSlot (act N o M .slots) (pick c (rightAfter (o .action) (M .right m x)) (M .right m x))
-            ≡ pick c (changedRight (changeOf (o .action) s) (withSlot (M .slots) (M .right m x))) (withSlot (M .slots) (M .right m x))
+            ≡ pick c (changedRight (changeFor (o .action) s) (withSlot (M .slots) (M .right m x))) (withSlot (M .slots) (M .right m x))
         go true e = changed (o .action) s m x (M .right m x) refl g k h (act-at true m x e)
         go false e = right-kept m x (M .right m x) k h (act-at false m x e)

@@ -17,7 +17,7 @@ use Rattle.segments.proofs.ScanLaws.{any-more}
 use Rattle.store.specs.Store.{Body, Slot, empty, holds}
 use Rattle.model.specs.Model.{ByteRight, none, granted, recalled, Model, Command, Action, grants, returns, recalls, revokes, act, afterAt, anyByte, covers, ifNamed, isUnder, meets, placed, rightAfter, stops21, tableOf}
 use Rattle.model.proofs.ModelSlotLaws.{placed-held}
-use Rattle.model.specs.AnyTable.{Invariant}
+use Rattle.model.specs.Invariants.{Invariant}
 use Rattle.model.proofs.Inv.{any-byte}
 use Rattle.model.proofs.Decode.{isHolding, named-is}
 use Rattle.slots.proofs.ClearLaws.{clearedSlots}

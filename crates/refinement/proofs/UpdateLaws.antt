@@ -22,7 +22,7 @@ use Rattle.store.specs.Store.{Body, Slot, holds, slotSet, storeOf}
 use Rattle.model.specs.Claim.{CallResult}
 use Rattle.model.specs.Model.{ByteRight, none, granted, recalled, Model, Command, Action, grants, returns, recalls, revokes, act, anyByte, covers, ifAccepted, inSlots, isHeld, isRecalled, meets, noneEmpty, placed, refuse, slotOf, stops21, stops22, stops24, stops25, tableOf, tooMany, verdict, withSlot}
 use Rattle.model.proofs.ModelSlotLaws.{same-number}
-use Rattle.model.specs.AnyTable.{GoodBody, InSlot, Invariant}
+use Rattle.model.specs.Invariants.{GoodBody, InSlot, Invariant}
 use Rattle.model.proofs.Inv.{GoodAction, Passes, act-keeps}
 use Rattle.model.proofs.Decode.{slots-back, whole}
 use Rattle.store.proofs.SlotLaws.{length-slot}
@@ -34,9 +34,9 @@ use Rattle.slots.proofs.ChoiceLaws.{lowest-is-in, lowest-of, lowest-set}
 use Rattle.events.specs.Events as calls
 use Rattle.events.specs.Events.{updateResult, otherBody, commandResult, stage, storeAfter}
 use Rattle.events.specs.declared.decision.Update.{Update}
-use Rattle.events.specs.declared.decision.Update.the-variants as step
+use Rattle.events.specs.declared.decision.Update.the-variants as update
 use Rattle.refinement.proofs.EditLaws.{edit-model}
-use Rattle.refinement.proofs.RightLaws.{ChoiceIs, changeOf, rights-agree}
+use Rattle.refinement.proofs.RightLaws.{ChoiceIs, changeFor, rights-agree}
 use Rattle.refinement.proofs.StoreUpdates.{slots-cleared, slots-kept}
 use Rattle.refinement.proofs.TestLaws.{meets-model}
 
@@ -89,7 +89,7 @@ ended N o M n = record { answer = n; kept = tableOf N (ifAccepted n (act N o M) 
 
 module _ (N : ℕ) (M : Model) (o : Command) (v : Invariant N M) (good : GoodAction (o .action)) (rising : o .first ≤ o .last) (ends : o .last ≤ N) where
   -- what an update leaves, where its change is the command's and it leaves the model's store; s: the slot of a grant's body
-  updated-model : (p : Update) (b : Body) (s : ℕ) → calls.changeOf p ≡ changeOf (o .action) s → ChoiceIs (o .action) (M .slots) s
+  updated-model : (p : Update) (b : Body) (s : ℕ) → calls.changeOf p ≡ changeFor (o .action) s → ChoiceIs (o .action) (M .slots) s
       → (tooMany N (act N o M) ≡ false → storeAfter p b (isNamed (tableOf N M)) (isNamed (tableOf N (act N o M))) (storeOf (M .slots)) ≡ storeOf (act N o M .slots))
       → updateResult p b (o .iomode) (o .first) (o .last) (tableOf N M) (storeOf (M .slots)) ≡ ended N o M (refuse 23 (tooMany N (act N o M)) 0)
   unfolding updateResult stage pick
@@ -97,7 +97,7 @@ module _ (N : ℕ) (M : Model) (o : Command) (v : Invariant N M) (good : GoodAct
       let next : Table → CallResult Table = λ u. record { answer = 0; kept = u; store = storeAfter p b (isNamed (tableOf N M)) (isNamed u) (storeOf (M .slots)) } in
       ap (λ (c : Change). stage (tableEdited c (o .iomode) (o .first) (o .last) (tableOf N M)) (tableOf N M) (storeOf (M .slots)) next) same
       ∙ (ap (λ (a : Answer Table). stage a (tableOf N M) (storeOf (M .slots)) next)
-      (edit-model N M o (changeOf (o .action) s) rising ends (v .few) (λ m x k. rights-agree N M o s choice m x k (v .in-slot m x k)))
+      (edit-model N M o (changeFor (o .action) s) rising ends (v .few) (λ m x k. rights-agree N M o s choice m x k (v .in-slot m x k)))
       ∙ go (tooMany N (act N o M)) stored)
     where
       go : (t : Bool) → (t ≡ false → storeAfter p b (isNamed (tableOf N M)) (isNamed (tableOf N (act N o M))) (storeOf (M .slots)) ≡ storeOf (act N o M .slots))
@@ -107,7 +107,7 @@ module _ (N : ℕ) (M : Model) (o : Command) (v : Invariant N M) (good : GoodAct
       go true h = refl
       go false h = λ i. record { answer = 0; kept = tableOf N (act N o M); store = h refl i }
 
-  -- a clear places no body, and zeroes what the table no longer names
+  -- a clear stores no body, and zeroes what the table no longer names
   store-cleared : placed (o .action) (M .slots) ≡ M .slots → Passes N o M
       → clearedFrom (isNamed (tableOf N M)) (isNamed (tableOf N (act N o M))) 8 0 (storeOf (M .slots)) ≡ storeOf (act N o M .slots)
   store-cleared e p =
@@ -119,21 +119,21 @@ module _ (N : ℕ) (M : Model) (o : Command) (v : Invariant N M) (good : GoodAct
 
 -- ---- each action
 
-module _ (N : ℕ) (M : Model) (v : Invariant N M) (i : Iomode) (lo hi len : ℕ) (rising : lo ≤ hi) (ends : hi ≤ N) where
+module _ (N : ℕ) (M : Model) (v : Invariant N M) (i : Iomode) (first last len : ℕ) (rising : first ≤ last) (ends : last ≤ N) where
   command : Action → Command
-  command d = record { action = d; iomode = i; first = lo; last = hi; len = len }
+  command d = record { action = d; iomode = i; first = first; last = last; len = len }
 
-  -- a action that clears meets 23 alone
-  was-cleared : (d : Action) → GoodAction d → ChoiceIs d (M .slots) 0 → changeOf d 0 ≡ change.Clear → placed d (M .slots) ≡ M .slots
+  -- an action that clears meets 23 alone
+  was-cleared : (d : Action) → GoodAction d → ChoiceIs d (M .slots) 0 → changeFor d 0 ≡ change.Clear → placed d (M .slots) ≡ M .slots
       → ((r : ByteRight) → stops21 d r ≡ false) → ((r : ByteRight) → stops22 d r ≡ false)
       → stops25 N d (command d) M ≡ false → stops24 d (M .slots) ≡ false
-      → updateResult step.Clear [] i lo hi (tableOf N M) (storeOf (M .slots)) ≡ ended N (command d) M (verdict N (command d) M)
+      → updateResult update.Clear [] i first last (tableOf N M) (storeOf (M .slots)) ≡ ended N (command d) M (verdict N (command d) M)
   unfolding verdict command
   was-cleared d good choice clears still h21 h22 h25 h24 =
       let a = never-met N (command d) (stops21 d) M h21 in
       let b = never-met N (command d) (stops22 d) M h22 in
       let q : verdict N (command d) M ≡ refuse 23 (tooMany N (act N (command d) M)) 0 = all-false _ _ _ _ _ a b h25 h24 in
-      updated-model N M (command d) v good rising ends step.Clear [] 0 (sym clears) choice
+      updated-model N M (command d) v good rising ends update.Clear [] 0 (sym clears) choice
       (λ h. store-cleared N M (command d) v good rising ends still (record { not-21 = a; not-22 = b; not-25 = h25; not-24 = h24; not-23 = h }))
       ∙ ap (ended N (command d) M) (sym q)
     where
@@ -149,23 +149,23 @@ module _ (N : ℕ) (M : Model) (v : Invariant N M) (i : Iomode) (lo hi len : ℕ
       rw (a, held) (go a (meets N (command recalls) isHeld M))
     where
       go : meets N (command recalls) (stops21 recalls) M ≡ false → (t : Bool)
-          → stage (pick t (accepted step.Recall) (refused 25)) (tableOf N M) (storeOf (M .slots))
-          (λ s. updateResult s [] i lo hi (tableOf N M) (storeOf (M .slots)))
+          → stage (pick t (accepted update.Recall) (refused 25)) (tableOf N M) (storeOf (M .slots))
+          (λ s. updateResult s [] i first last (tableOf N M) (storeOf (M .slots)))
           ≡ ended N (command recalls) M (refuse 25 (not t) (refuse 23 (tooMany N (act N (command recalls) M)) 0))
       go a true =
-          updated-model N M (command recalls) v tt rising ends step.Recall [] 0 refl tt
+          updated-model N M (command recalls) v tt rising ends update.Recall [] 0 refl tt
           (λ h. ap storeOf (sym (slots-kept N M (command recalls) v rising ends refl a)))
       go a false = refl
 
   -- a grant of a body that is in a slot, and of one that takes the lowest empty slot
   module _ (b : Body) (good : GoodBody b) where
     -- 21 by slot numbers
-    other-met : tableMeets (satisfies (otherBody (slotChoice b (M .slots)))) i lo hi (tableOf N M) ≡ meets N (command (grants b)) (stops21 (grants b)) M
+    other-met : tableMeets (satisfies (otherBody (slotChoice b (M .slots)))) i first last (tableOf N M) ≡ meets N (command (grants b)) (stops21 (grants b)) M
     unfolding slotChoice freeChoice pick command
     other-met = go (inSlots b (M .slots)) (noneEmpty (M .slots)) refl refl
       where
         go : (t u : Bool) → inSlots b (M .slots) ≡ t → noneEmpty (M .slots) ≡ u
-            → tableMeets (satisfies (otherBody (pick t (Holding (record { 0 = slotOf b (M .slots) })) (pick u NoneLeft (Free (record { 0 = lowestEmpty (M .slots) })))))) i lo hi (tableOf N M)
+            → tableMeets (satisfies (otherBody (pick t (Holding (record { 0 = slotOf b (M .slots) })) (pick u NoneLeft (Free (record { 0 = lowestEmpty (M .slots) })))))) i first last (tableOf N M)
             ≡ meets N (command (grants b)) (stops21 (grants b)) M
         go true u e f =
             meets-model N M (command (grants b)) (satisfies (HeldElsewhere (record { 0 = slotOf b (M .slots) }))) (stops21 (grants b)) rising refl
@@ -175,7 +175,7 @@ module _ (N : ℕ) (M : Model) (v : Invariant N M) (i : Iomode) (lo hi len : ℕ
         go false false e f =
             meets-model N M (command (grants b)) (satisfies Held) (stops21 (grants b)) rising refl (λ m x k. new-shown (M .slots) b (M .right m x) e (v .in-slot m x k))
 
-    recalled-met : tableMeets (satisfies Recalled) i lo hi (tableOf N M) ≡ meets N (command (grants b)) (stops22 (grants b)) M
+    recalled-met : tableMeets (satisfies Recalled) i first last (tableOf N M) ≡ meets N (command (grants b)) (stops22 (grants b)) M
     unfolding command
     recalled-met = meets-model N M (command (grants b)) (satisfies Recalled) (stops22 (grants b)) rising refl (λ m x k. recalled-shown (M .slots) (M .right m x))
 
@@ -183,13 +183,13 @@ module _ (N : ℕ) (M : Model) (v : Invariant N M) (i : Iomode) (lo hi len : ℕ
     module _ (h21 : meets N (command (grants b)) (stops21 (grants b)) M ≡ false) where
       granted-as : (p : Update) (s : ℕ) → calls.changeOf p ≡ change.Grant (record { 0 = s }) → slotOf b (placed (grants b) (M .slots)) ≡ s
           → storeAfter p b (isNamed (tableOf N M)) (isNamed (tableOf N (act N (command (grants b)) M))) (storeOf (M .slots)) ≡ storeOf (placed (grants b) (M .slots))
-          → updateResult p b i lo hi (tableOf N M) (storeOf (M .slots)) ≡ ended N (command (grants b)) M (refuse 23 (tooMany N (act N (command (grants b)) M)) 0)
+          → updateResult p b i first last (tableOf N M) (storeOf (M .slots)) ≡ ended N (command (grants b)) M (refuse 23 (tooMany N (act N (command (grants b)) M)) 0)
       unfolding command
       granted-as p s same choice stored =
           updated-model N M (command (grants b)) v good rising ends p b s same choice
           (λ h. stored ∙ ap storeOf (sym (slots-kept N M (command (grants b)) v rising ends refl h21)))
 
-      placed-at : stage (calls.grantUnder (slotChoice b (M .slots))) (tableOf N M) (storeOf (M .slots)) (λ s. updateResult s b i lo hi (tableOf N M) (storeOf (M .slots)))
+      placed-at : stage (calls.grantUnder (slotChoice b (M .slots))) (tableOf N M) (storeOf (M .slots)) (λ s. updateResult s b i first last (tableOf N M) (storeOf (M .slots)))
           ≡ ended N (command (grants b)) M (refuse 24 (stops24 (grants b) (M .slots)) (refuse 23 (tooMany N (act N (command (grants b)) M)) 0))
       unfolding command slotChoice freeChoice stage pick
       placed-at = go (inSlots b (M .slots)) (noneEmpty (M .slots)) refl refl
@@ -206,13 +206,13 @@ module _ (N : ℕ) (M : Model) (v : Invariant N M) (i : Iomode) (lo hi len : ℕ
 
           go : (t u : Bool) → inSlots b (M .slots) ≡ t → noneEmpty (M .slots) ≡ u
               → stage (calls.grantUnder (pick t (Holding (record { 0 = slotOf b (M .slots) })) (pick u NoneLeft (Free (record { 0 = lowestEmpty (M .slots) })))))
-              (tableOf N M) (storeOf (M .slots)) (λ s. updateResult s b i lo hi (tableOf N M) (storeOf (M .slots)))
+              (tableOf N M) (storeOf (M .slots)) (λ s. updateResult s b i first last (tableOf N M) (storeOf (M .slots)))
               ≡ ended N (command (grants b)) M (refuse 24 (not t && u) (refuse 23 (tooMany N (act N (command (grants b)) M)) 0))
           go true u e f =
-              granted-as (step.GrantKnown (record { 0 = slotOf b (M .slots) })) (slotOf b (M .slots)) refl (ap (slotOf b) (known e)) (ap storeOf (sym (known e)))
+              granted-as (update.GrantKnown (record { 0 = slotOf b (M .slots) })) (slotOf b (M .slots)) refl (ap (slotOf b) (known e)) (ap storeOf (sym (known e)))
           go false true e f = refl
           go false false e f =
-              granted-as (step.GrantNew (record { 0 = lowestEmpty (M .slots) })) (lowestEmpty (M .slots)) refl (rw e (lowest-of b (M .slots) e f)) (new e f)
+              granted-as (update.GrantNew (record { 0 = lowestEmpty (M .slots) })) (lowestEmpty (M .slots)) refl (rw e (lowest-of b (M .slots) e f)) (new e f)
 
     was-granted : commandResult (accepted (command (grants b))) (tableOf N M) (storeOf (M .slots)) ≡ ended N (command (grants b)) M (verdict N (command (grants b)) M)
     unfolding verdict command commandResult calls.grantDecision stage pick
@@ -221,7 +221,7 @@ module _ (N : ℕ) (M : Model) (v : Invariant N M) (i : Iomode) (lo hi len : ℕ
         (go (meets N (command (grants b)) (stops21 (grants b)) M) (meets N (command (grants b)) (stops22 (grants b)) M) placed-at)
       where
         next : Update → CallResult Table
-        next s = updateResult s b i lo hi (tableOf N M) (storeOf (M .slots))
+        next s = updateResult s b i first last (tableOf N M) (storeOf (M .slots))
 
         go : (t u : Bool) → (t ≡ false
             → stage (calls.grantUnder (slotChoice b (M .slots))) (tableOf N M) (storeOf (M .slots)) next

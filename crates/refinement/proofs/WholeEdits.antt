@@ -48,27 +48,27 @@ unfolding parts
 none-before [] = refl
 none-before (s ∷ l) = before-skips 0 s l (omega arith) ∙ none-before l
 
-none-after : (hi : ℕ) (l : List Segment) → Below (suc hi) l → parts (after hi) l ≡ []
+none-after : (last : ℕ) (l : List Segment) → Below (suc last) l → parts (after last) l ≡ []
 unfolding parts Below
-none-after hi [] b = refl
-none-after hi (s ∷ l) b = after-skips hi s l (omega arith) ∙ none-after hi l (b .1)
+none-after last [] b = refl
+none-after last (s ∷ l) b = after-skips last s l (omega arith) ∙ none-after last l (b .1)
 
-no-more-inside : (c : Change) (hi : ℕ) (l : List Segment) → length (parts (inside c 0 hi) l) ≤ length l
+no-more-inside : (c : Change) (last : ℕ) (l : List Segment) → length (parts (inside c 0 last) l) ≤ length l
 unfolding parts
-no-more-inside c hi [] = omega arith
-no-more-inside c hi (s ∷ l) = go (decLe (s .first) hi) (sameRight None (changedRight c (s .right))) refl (no-more-inside c hi l)
+no-more-inside c last [] = omega arith
+no-more-inside c last (s ∷ l) = go (decLe (s .first) last) (sameRight None (changedRight c (s .right))) refl (no-more-inside c last l)
   where
-    go : Dec (s .first ≤ hi) → (b : Bool) → sameRight None (changedRight c (s .right)) ≡ b → length (parts (inside c 0 hi) l) ≤ length l
-        → length (parts (inside c 0 hi) (s ∷ l)) ≤ suc (length l)
-    go (yes d) false w h = rw (inside-cuts c 0 hi s l d (omega arith) w) (omega arith)
-    go (yes d) true w h = rw (inside-drops c 0 hi s l d (omega arith) w) (omega arith)
-    go (no d) b w h = rw (inside-skips-past c 0 hi s l (omega arith)) (omega arith)
+    go : Dec (s .first ≤ last) → (b : Bool) → sameRight None (changedRight c (s .right)) ≡ b → length (parts (inside c 0 last) l) ≤ length l
+        → length (parts (inside c 0 last) (s ∷ l)) ≤ suc (length l)
+    go (yes d) false w h = rw (inside-cuts c 0 last s l d (omega arith) w) (omega arith)
+    go (yes d) true w h = rw (inside-drops c 0 last s l d (omega arith) w) (omega arith)
+    go (no d) b w h = rw (inside-skips-past c 0 last s l (omega arith)) (omega arith)
 
 -- ---- the edits
 
-pub whole-needs-no-more : (c : Change) → KeepsNone c → (hi : ℕ) (l : List Segment) → Below (suc hi) l → length (edited c 0 hi l) ≤ length l
+pub whole-needs-no-more : (c : Change) → KeepsNone c → (last : ℕ) (l : List Segment) → Below (suc last) l → length (edited c 0 last l) ≤ length l
 unfolding edited
-whole-needs-no-more c z hi l b =
-    let h = pushAll-adds-at-most [] (parts (inside c 0 hi) l) in
-    let k = no-more-inside c hi l in
-    rw (none-before l, none-after hi l b, middle-is-inside c z 0 hi l, append-nil (parts (inside c 0 hi) l)) (omega arith)
+whole-needs-no-more c z last l b =
+    let h = pushAll-adds-at-most [] (parts (inside c 0 last) l) in
+    let k = no-more-inside c last l in
+    rw (none-before l, none-after last l b, middle-is-inside c z 0 last l, append-nil (parts (inside c 0 last) l)) (omega arith)

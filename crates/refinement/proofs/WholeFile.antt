@@ -25,13 +25,13 @@ use Rattle.table.proofs.ChangeLaws.{KeepsNone}
 use Rattle.refinement.proofs.WholeEdits.{whole-needs-no-more}
 use Rattle.model.specs.Model.{Event, Recall, Return, Revoke, recalls, returns, readCommand, rangeCommand}
 use Rattle.soundness.specs.Sound.{sound}
-use Rattle.model.specs.AnyTable.{EndsBy}
+use Rattle.soundness.specs.AnyTable.{EndsBy}
 use Rattle.soundness.proofs.SoundParts.{listed, sounds}
 use Rattle.soundness.proofs.FromSound.{ends-below}
 use Rattle.store.specs.Store.{Body}
 use Rattle.events.specs.Events.{eventResult, updateResult, changeOf, commandResult, recallDecision, refusedWith, stage}
 use Rattle.events.specs.declared.decision.Update.{Update}
-use Rattle.events.specs.declared.decision.Update.the-variants as step
+use Rattle.events.specs.declared.decision.Update.the-variants as update
 
 -- ---- the edit
 
@@ -81,7 +81,7 @@ module _ (t : Table) (store : List ℕ) (read : Each (EndsBy lastByte) (listOf (
     where
       go : sound t store ≡ true → (a : Answer Iomode) → (a ≡ refused 23 → ⊥)
           → commandResult (given a λ i. accepted (record { action = returns; iomode = i; first = 0; last = lastByte; len = toTheEnd })) t store .answer ≡ 23 → ⊥
-      go s (accepted i) h e = let z = change-accepted change.Clear refl t store s read rw-list step.Clear [] i refl in omega (arith, e, z)
+      go s (accepted i) h e = let z = change-accepted change.Clear refl t store s read rw-list update.Clear [] i refl in omega (arith, e, z)
       go s (refused n) h e = h (ap refused e)
 
   pub whole-recall : (number : ℕ) → eventResult (Recall 0 toTheEnd number) t store .answer ≡ 23 → ⊥
@@ -89,8 +89,8 @@ module _ (t : Table) (store : List ℕ) (read : Each (EndsBy lastByte) (listOf (
   whole-recall number = if-sound (Recall 0 toTheEnd number) (λ s. go s (iomodeOf number) (iomode-answer number))
     where
       held : sound t store ≡ true → (i : Iomode) (b : Bool)
-          → stage (pick b (accepted step.Recall) (refused 25)) t store (λ p. updateResult p [] i 0 lastByte t store) .answer ≡ 23 → ⊥
-      held s i true e = let z = change-accepted change.Recall refl t store s read rw-list step.Recall [] i refl in omega (arith, e, z)
+          → stage (pick b (accepted update.Recall) (refused 25)) t store (λ p. updateResult p [] i 0 lastByte t store) .answer ≡ 23 → ⊥
+      held s i true e = let z = change-accepted change.Recall refl t store s read rw-list update.Recall [] i refl in omega (arith, e, z)
       held s i false e = omega arith
 
       go : sound t store ≡ true → (a : Answer Iomode) → (a ≡ refused 23 → ⊥)
@@ -102,5 +102,5 @@ module _ (t : Table) (store : List ℕ) (read : Each (EndsBy lastByte) (listOf (
   unfolding readCommand commandResult stage
   whole-revoke =
       if-sound Revoke λ s e.
-      let z = change-accepted change.Clear refl t store s read rw-list step.Clear [] Any refl in
+      let z = change-accepted change.Clear refl t store s read rw-list update.Clear [] Any refl in
       omega (arith, e, z)

@@ -17,7 +17,7 @@ use Rattle.report.specs.Reports.{errorFits}
 use Rattle.report.specs.declared.ReportHead.{ReportHead}
 use Rattle.report.specs.Writing.{allFit, counts, ErrorEntry, errorsBytes, headBytes, checkedReports, checkedReport, entryHere, entriesAt, reportsBytes}
 
--- what stands in no place of an array
+-- what is in no entry of an array
 abbrev pub noHead : ReportHead
 noHead = record { offset = 0; length = 0; stateid = []; errors = 0 }
 
@@ -51,7 +51,7 @@ unfolding entriesAt
 length-entries zero s at = refl
 length-entries (suc n) s at = ap suc (length-entries n s (at + 24))
 
--- the entries of a report, and those behind them
+-- the entries of a report, and those after them
 pub take-entries : (m n : ℕ) (s : List ℕ) (at : ℕ) → take m (entriesAt (m + n) s at) ≡ entriesAt m s at
 unfolding entriesAt
 take-entries zero n s at = refl

@@ -1,4 +1,4 @@
--- Laws of what stands where something was read: an error, a run of errors, a head, a report, a run of reports.
+-- Laws of what is where something was read: an error, a run of errors, a head, a report, a run of reports.
 use Prim.Native.Nat.{ℕ, zero, suc, _+_, _*_, _≤_}
 use mathlib.Core.Path.{_≡_, refl, sym, ap, _∙_}
 use mathlib.Core.List.{List, [], _∷_, _++_, map}
@@ -172,7 +172,7 @@ no-reports : (s : List ℕ) (at p : ℕ) → at ≤ length s → p ≡ at → Re
 unfolding reportsBytes checkedReports counts entriesIn
 no-reports s at p r e = record { stands = record { room = omega (arith, r); same = refl }; offset = omega (arith, e); allowed = refl; sum = refl }
 
--- one report before those behind it
+-- one report before those after it
 reports-more : (h : ReportHead) (rs : List Report) (s : List ℕ) (at p1 p2 p3 : ℕ) → AllBytes s → HeadBack h s at p1 → ErrorsBack (h .errors) s p1 p2 → ReportsBack rs s p2 p3
     → ReportsBack (record { head = h; errors-at = p1 } ∷ rs) s at p3
 unfolding reportsBytes checkedReports counts entriesIn given

@@ -26,7 +26,7 @@ use Rattle.report.specs.declared.head.HeadItem.{HeadItem}
 abbrev reported : ReportHead → ℕ → ℕ → Parsed Report
 reported h p q = ok (record { head = h; errors-at = p }) q
 
--- a report by the place where its errors end
+-- a report by the offset where its errors end
 pub report-ends : (s : List ℕ) (at : ℕ)
     → reportAt s at ≡ then (reportHeadAt s at) (λ h p. then (endOf (manyAt errorAt (h .errors) s p)) λ u q. reported h p q)
 unfolding reportAt then
@@ -110,7 +110,7 @@ pub answer-accepted : (b : Answer (List Report)) (rs : List Report) (a : Answer 
 unfolding countOf given
 answer-accepted b rs a hs ps e k = rw e k
 
--- the body by the place where its statistics end
+-- the body by the offset where its statistics end
 pub body-ends : (s : List ℕ) → reportBody s ≡ whole s (then (reportsAt s 0) λ rs q. then (endOf (countAt 0 0 s q)) λ u z. ok rs z)
 unfolding reportBody then
 body-ends s = go (reportsAt s 0) where
@@ -152,7 +152,7 @@ report-stateid s at r p e =
     let k : a .item ≡ r .head = ap (λ (x : Report). x .head) (same-value (b .rest)) in
     ap (λ (h : ReportHead). length (h .stateid)) (sym k) ∙ head-stateid s at _ _ (a .first)
 
--- so a stateid that stands in the bytes stands there whole
+-- so a stateid that is in the bytes is there whole
 pub stateid-inside : (s : List ℕ) (at first : ℕ) (h : HeadItem) (p : ℕ)
     → reportAt s at ≡ ok (record { head = headFrom s h; errors-at = first }) p → h .stateid + 16 ≤ length s
 stateid-inside s at first h p e =

@@ -77,7 +77,7 @@ halves count heads es z room bs f g h =
           ∙ ap (λ (i : ℕ). length (beBytes 4 (length hs)) + i) (length-append (reportsBytes hs es) z) ∙ omega (arith, n));
     }
 
--- Reading what was written gives the same reports, and the same errors stand at their places.
+-- Reading what was written gives the same reports, and the same errors are at their offsets.
 pub reading-what-was-written : (count : ℕ) (heads : List ReportHead) (es : List ErrorEntry) (room : ℕ) (bs : List ℕ)
     → Each HeadFits (take count heads) → Each EntryFits es → reportsWritten count heads es room ≡ accepted bs
     → (reportBody bs ≡ accepted (reportsFrom (take count heads) 4)) × (entriesIn bs (reportsFrom (take count heads) 4) ≡ es)

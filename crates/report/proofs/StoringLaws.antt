@@ -1,4 +1,4 @@
--- Laws of what is stored: how long each part of a body is, and the parts one behind the other.
+-- Laws of what is stored: how long each part of a body is, and the parts one after the other.
 use Prim.Native.Nat.{ℕ, zero, suc, _+_, _*_, _≤_, _<_}
 use mathlib.Core.Path.{_≡_, refl, sym, ap, _∙_}
 use mathlib.Core.List.{List, [], _∷_, _++_}

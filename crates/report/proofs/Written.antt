@@ -1,4 +1,4 @@
--- Laws of reading what stands: an error, a run of errors, a head, a report, a run of reports.
+-- Laws of reading what is there: an error, a run of errors, a head, a report, a run of reports.
 use Prim.Native.Nat.{ℕ, zero, suc, _+_, _-_, _*_, _^_, _<_}
 use mathlib.Core.Path.{_≡_, refl, sym, ap, _∙_}
 use mathlib.Core.List.{List, [], _∷_, _++_, append-assoc}

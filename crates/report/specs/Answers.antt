@@ -27,7 +27,7 @@ abbrev pub parsedOfError : ReadError → Parsed ErrorItem
 parsedOfError (error.Value e c) = ok e (c .at)
 parsedOfError (error.Refused e) = fault (faultNumber e)
 
--- a head whose stateid stands in the bytes s
+-- a head whose stateid is in the bytes s
 abbrev pub headFrom : List ℕ → HeadItem → ReportHead
 headFrom s h = record {
   offset = h .offset;
@@ -44,7 +44,7 @@ abbrev pub parsedOfReport : List ℕ → ReadReport → Parsed Report
 parsedOfReport s (report.Value h first c) = ok (record { head = headFrom s h; errors-at = first }) (c .at)
 parsedOfReport s (report.Refused e) = fault (faultNumber e)
 
--- ---- the arrays of 8 places
+-- ---- the arrays of 8 entries
 
 abbrev pub blankHead : ReportHead
 blankHead = record { offset = 0; length = 0; stateid = replicate stateidSize 0; errors = 0 }
@@ -53,7 +53,7 @@ blankHead = record { offset = 0; length = 0; stateid = replicate stateidSize 0; 
 abbrev pub headsOf : List Report → List ReportHead
 headsOf rs = padded mostReports blankHead (map (λ (r : Report). r .head) rs)
 
--- where the first error of each report stands
+-- where the first error of each report is
 abbrev pub offsetsOf : List Report → List ℕ
 offsetsOf rs = padded mostReports 0 (map (λ (r : Report). r .errors-at) rs)
 
@@ -69,7 +69,7 @@ abbrev pub answerOfCount : ReportsAnswer → Answer ℕ
 answerOfCount (answer.Count n) = accepted n
 answerOfCount (answer.Refused e) = refused (faultNumber e)
 
--- the count and both arrays, where the reports behind the ones already read were read
+-- the count and both arrays, where the reports after the ones already read were read
 unfoldable pub arraysFrom : List Report → Parsed (List Report) → Parsed (ℕ × (List ReportHead × List ℕ))
 arraysFrom done x = then x λ rs p. ok (length (done ++ rs), (headsOf (done ++ rs), offsetsOf (done ++ rs))) p
 

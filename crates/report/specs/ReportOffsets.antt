@@ -1,4 +1,4 @@
--- Reports and errors by their places in a body; what the two round trips speak of.
+-- Reports and errors by their offsets in a body; what the two round trips speak of.
 use Prim.Native.Nat.{ℕ, _+_, _*_, _^_, _<_}
 use mathlib.Core.Path.{_≡_}
 use mathlib.Core.List.{List, [], _∷_, _++_}
@@ -8,7 +8,7 @@ use Rattle.report.specs.Reports.{Report}
 use Rattle.report.specs.declared.ReportHead.{ReportHead}
 use Rattle.report.specs.Writing.{ErrorEntry, entriesAt}
 
--- reports that are written from a place on: 36 bytes, then the errors of 24 bytes each
+-- reports that are written from an offset on: 36 bytes, then the errors of 24 bytes each
 unfoldable pub reportsFrom : List ReportHead → ℕ → List Report
 reportsFrom [] at = []
 reportsFrom (h ∷ hs) at = record { head = h; errors-at = at + reportHeadSize }

@@ -18,7 +18,7 @@ use Rattle.report.specs.declared.ReportHead.{ReportHead}
 unfoldable pub errorFits : ℕ → ℕ → Bool
 errorFits status operation = not (eqb status 0) && (eqb operation 5 || (eqb operation 25 || eqb operation 38))
 
--- where status and operation stand in an error, from its start: "device id, status, operation"
+-- where status and operation are in an error, from its start: "device id, status, operation"
 abbrev pub errorStatusOffset : ℕ
 errorStatusOffset = deviceIdSize
 
@@ -45,13 +45,13 @@ reportHeadAt s at =
     then (countAt 1 mostErrors s p3) λ n p4.
     ok (record { offset = offset; length = len; stateid = bytesFrom stateidSize s (stateid .start); errors = n }) p4
 
--- a report that was read: what stands before its errors, and the place of the first of them
+-- a report that was read: what is before its errors, and the offset of the first of them
 pub record Report : Type 0 where
   pub head : ReportHead
   pub errors-at : ℕ
 
--- "A report: offset, length .., stateid, error count (1 to 16), errors of ..": each error is judged, and where the
--- first stands is kept
+-- "A report: offset, length .., stateid, error count (1 to 16), errors of ..": each error is judged, and the
+-- offset of the first is kept
 unfoldable pub reportAt : List ℕ → ℕ → Parsed Report
 reportAt s at =
     then (reportHeadAt s at) λ h p.

@@ -1,9 +1,11 @@
 -- Error reports, ff_layoutreturn4 of RFC 8435, 9.3, written: what is judged, in which order, and the bytes of the
--- body.
-use Prim.Native.Nat.{ℕ, zero, suc, _+_}
+-- body; and what the functions inside this crate promise of them.
+use Prim.Native.Nat.{ℕ, zero, suc, _+_, _≤_}
+use mathlib.Core.Path.{_≡_}
 use mathlib.Core.List.{List, [], _∷_, _++_}
 use mathlib.Core.Bool.{Bool, true, _&&_}
 use lib.ListN.{length, take, drop}
+use lib.Seq.{sets}
 use lib.Dec.{leb, eqb}
 use Rattle.base.specs.Answer.{Answer, accepted, refused, given, pick}
 use Rattle.base.specs.Limits.{deviceIdSize, errorSize, mostErrors, mostReports, stateidSize}
@@ -18,7 +20,7 @@ pub record ErrorEntry : Type 0 where
   pub status : ℕ
   pub operation : ℕ
 
--- the entry whose 24 bytes stand at a place. A number that is not there whole is 0: a entry that is not there whole
+-- the entry whose 24 bytes are at an offset. A number that is not there whole is 0: an entry that is not there whole
 -- is never allowed.
 unfoldable pub entryHere : List ℕ → ℕ → ErrorEntry
 entryHere s at = record {
@@ -27,7 +29,7 @@ entryHere s at = record {
   operation = beAt 4 s (at + errorOperationOffset);
 }
 
--- the n entries from a place on
+-- the n entries from an offset on
 unfoldable pub entriesAt : ℕ → List ℕ → ℕ → List ErrorEntry
 entriesAt zero s at = []
 entriesAt (suc n) s at = entryHere s at ∷ entriesAt n s (at + errorSize)
@@ -110,3 +112,21 @@ reportsWritten count heads es room = bodyWritten count heads es (beBytes 4 0) ro
 unfoldable pub outputAfter : List ℕ → Answer (List ℕ) → List ℕ
 outputAfter l (accepted bs) = bs ++ drop (length bs) l
 outputAfter l (refused n) = l
+
+-- ---- inside this crate
+
+-- n is the error count of a head: it has 32 bits, and the head's stateid has 16 bytes
+pub record ErrorCount (h : ReportHead) (n : ℕ) : Type 0 where
+  pub number : n ≡ h .errors
+  pub bound : n ≤ 4294967295
+  pub stateid : length (h .stateid) ≡ stateidSize
+
+-- n is the sum of the error counts of heads, and each of their stateids has 16 bytes
+pub record ErrorTotal (hs : List ReportHead) (n : ℕ) : Type 0 where
+  pub sum : n ≡ counts hs
+  pub stateids : stateidsWhole hs ≡ true
+
+-- m is the list l with a head's bytes stored at an offset, and the head's stateid has 16 bytes
+pub record StoredHead (l : List ℕ) (at : ℕ) (h : ReportHead) (m : List ℕ) : Type 0 where
+  pub bytes : m ≡ sets l at (headBytes h)
+  pub stateid : length (h .stateid) ≡ stateidSize

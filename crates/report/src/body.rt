@@ -21,14 +21,15 @@ ghost use Rattle.xdr.specs.Answers.{parsedOfEnd};
 ghost use Rattle.xdr.specs.Items.{countAt};
 ghost use Rattle.xdr.specs.Parsed.{endOf, manyAt};
 ghost use Rattle.report.specs.Reports.{reportAt, reportBody, reportsAt};
-ghost use Rattle.report.specs.Answers.{answerOfCount, blankHead, countOf, headsOf, offsetsOf, reportsIn, parsedOfArrays, arraysFrom};
+ghost use Rattle.report.specs.Answers.{answerOfCount, blankHead, countOf, headsOf, offsetsOf, reportsIn};
+ghost use Rattle.report.specs.Answers.{parsedOfArrays, arraysFrom};
 
 pub enum ReportsAnswer {
     Count(u32),
     Refused(Fault),
 }
 
-// The reports' heads, and where the first error of each stands. Places past the count are blank, and so is each after
+// The reports' heads, and where the first error of each is. Entries past the count are blank, and so is each after
 // a refusal.
 pub struct ReportsRead {
     pub answer: ReportsAnswer,
@@ -36,7 +37,7 @@ pub struct ReportsRead {
     pub errors_at: [usize; REPORT_ENTRIES],
 }
 
-// The first half of the body: how many reports it has, and the same arrays; `end` is the place behind the reports.
+// The first half of the body: how many reports it has, and the same arrays; `end` is the offset after the reports.
 pub struct Arrays {
     pub end: ReadEnd,
     pub count: u32,
@@ -113,7 +114,7 @@ fn reports_part(s: &[u8]) -> Arrays
     read_arrays(s, c, n)
 }
 
-// Where the statistics behind the reports end: there must be none.
+// Where the statistics after the reports end: there must be none.
 fn statistics_end(s: &[u8], c: Cursor) -> ReadEnd
     ensures { λ r. ⌜ parsedOfEnd r ≡ endOf (countAt 0 0 (now (s .entry)) (c .at)) ⌝ }
 {

@@ -9,13 +9,13 @@ use base::MOST_ERRORS;
 use base::REPORT_ENTRIES;
 use base::RangeEnd;
 ghost use mathlib.Core.Path.{_≡_};
-ghost use Rattle.base.specs.Limits.{errorSize, mostErrors, mostErrorsInAll, mostReports, stateidSize};
+ghost use Rattle.base.specs.Limits.{errorSize, mostErrors, mostErrorsInAll, mostReports};
 ghost use Rattle.base.specs.Answer.{refusalIn};
 ghost use Rattle.base.specs.Refusals.{faultNumber};
 ghost use Prim.Native.Nat.{_+_, _*_, _≤_};
 ghost use lib.ListN.{length, take};
-ghost use mathlib.Core.Bool.{true};
-ghost use Rattle.report.specs.Writing.{allFit, counts, checkedReports, checkedReport, entriesAt, stateidsWhole};
+ghost use Rattle.report.specs.Writing.{ErrorCount, ErrorTotal, allFit, counts};
+ghost use Rattle.report.specs.Writing.{checkedReport, checkedReports, entriesAt};
 ghost use Rattle.report.specs.WriteAnswers.{answerOfCheck};
 
 pub enum Check {
@@ -25,7 +25,7 @@ pub enum Check {
 
 // The error count of a head. A caller cannot see how long an element's stateid is, so this says it.
 fn errors_of(head: ReportHead) -> u64
-    ensures { λ r. ⌜ (r ≡ head .errors) × (r ≤ 4294967295) × (length (head .stateid) ≡ stateidSize) ⌝ }
+    ensures { λ r. ⌜ ErrorCount head r ⌝ }
 {
     head.errors as u64
 }
@@ -33,7 +33,7 @@ fn errors_of(head: ReportHead) -> u64
 // The error counts together: at most eight of 32 bits, so 64 bits hold the sum.
 pub(crate) fn total(heads: [ReportHead; REPORT_ENTRIES], count: usize) -> u64
     requires { ⌜ count ≤ mostReports ⌝ }
-    ensures { λ r. ⌜ (r ≡ counts (take count heads)) × (stateidsWhole (take count heads) ≡ true) ⌝ }
+    ensures { λ r. ⌜ ErrorTotal (take count heads) r ⌝ }
 {
     let mut sum: u64 = 0;
     let mut i: usize = 0;
@@ -48,7 +48,7 @@ pub(crate) fn total(heads: [ReportHead; REPORT_ENTRIES], count: usize) -> u64
     sum
 }
 
-// The n entries from a place on: each may be written.
+// The n entries from an offset on: each may be written.
 fn errors_fit(errors: &[u8], from: usize, n: usize) -> bool
     requires { ⌜ (from ≤ errorSize * mostErrorsInAll) × (n ≤ mostErrors) ⌝ }
     ensures { λ r. ⌜ r ≡ allFit (entriesAt n (now (errors .entry)) from) ⌝ }
@@ -67,7 +67,7 @@ fn errors_fit(errors: &[u8], from: usize, n: usize) -> bool
     true
 }
 
-// One report whose first error stands at a place of the entries.
+// One report whose first error is at an offset of the entries.
 fn check_report(head: ReportHead, errors: &[u8], from: usize) -> Check
     requires { ⌜ from ≤ errorSize * mostErrorsInAll ⌝ }
     ensures { λ r. ⌜ answerOfCheck r ≡ checkedReport head (entriesAt (head .errors) (now (errors .entry)) from) ⌝ }

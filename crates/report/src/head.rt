@@ -1,4 +1,4 @@
-// One report: what stands before its errors, and the errors.
+// One report: what is before its errors, and the errors.
 use crate::ReportHead;
 use crate::error::read_errors;
 use base::Fault;
@@ -21,7 +21,7 @@ ghost use Rattle.bytes.specs.Numbers.{bytesFrom};
 ghost use Rattle.report.specs.Reports.{reportHeadAt, reportAt};
 ghost use Rattle.report.specs.Answers.{headFrom, parsedOfReportHead, parsedOfReport};
 
-// A `ReportHead` whose stateid is still in the bytes: `stateid` is its place.
+// A `ReportHead` whose stateid is still in the bytes: `stateid` is its offset.
 pub struct HeadItem {
     pub offset: u64,
     pub length: u64,
@@ -34,7 +34,7 @@ pub enum ReadReportHead {
     Refused(Fault),
 }
 
-// What stands before the errors, where the first error stands, and the place after the report.
+// What is before the errors, where the first error is, and the offset after the report.
 pub enum ReadReport {
     Value(HeadItem, usize, Cursor),
     Refused(Fault),

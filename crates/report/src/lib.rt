@@ -17,7 +17,7 @@ pub use put::put_error;
 pub use write::Written;
 pub use write::write_reports;
 
-// What stands before the errors of a report. `errors` is how many errors follow. It crosses to C as it is.
+// What is before the errors of a report. `errors` is how many errors follow. It crosses to C as it is.
 #[repr(C)]
 pub struct ReportHead {
     pub offset: u64,
@@ -26,19 +26,19 @@ pub struct ReportHead {
     pub errors: u32,
 }
 
-// Where the items of a report's head stand, from its start: "offset, length .., stateid, error count".
+// Where the items of a report's head are, from its start: "offset, length .., stateid, error count".
 pub const REPORT_LENGTH_OFFSET: usize = 8;
 
 pub const REPORT_STATEID_OFFSET: usize = REPORT_LENGTH_OFFSET + 8;
 
 pub const REPORT_COUNT_OFFSET: usize = REPORT_STATEID_OFFSET + STATEID_SIZE;
 
-// Where the items of an error stand, from its start: "device id, status, operation".
+// Where the items of an error are, from its start: "device id, status, operation".
 pub const ERROR_STATUS_OFFSET: usize = base::DEVICE_ID_SIZE;
 
 pub const ERROR_OPERATION_OFFSET: usize = ERROR_STATUS_OFFSET + 4;
 
-// One error. `device` is the place of its device id.
+// One error. `device` is the offset of its device id.
 pub struct ErrorItem {
     pub device: usize,
     pub status: u32,

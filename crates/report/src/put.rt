@@ -10,15 +10,16 @@ ghost use mathlib.Core.Path.{_≡_};
 ghost use Prim.Native.Nat.{_+_, _*_, _≤_};
 ghost use lib.ListN.{length, take};
 ghost use lib.Seq.{sets};
-ghost use Rattle.base.specs.Limits.{errorSize, mostReports, reportHeadSize, stateidSize};
+ghost use Rattle.base.specs.Limits.{errorSize, mostReports, reportHeadSize};
 ghost use Rattle.bytes.specs.Buffers.{stored};
-ghost use Rattle.report.specs.Writing.{counts, errorBytes, errorsBytes, headBytes};
+ghost use Rattle.report.specs.Writing.{StoredHead, counts, errorBytes, errorsBytes};
 ghost use Rattle.report.specs.Writing.{entriesAt, reportsBytes};
 
 // One wire entry: the device id, which has 16 bytes where it is one, then status and operation. Where it does not
 // fit, the buffer stays as it was.
 pub fn put_error(buf: &mut [u8], at: usize, device: &[u8], status: u32, operation: u32)
-    ensures { λ r. ⌜ now (buf .exit) ≡ stored (now (buf .entry)) at (errorBytes (record { device = now (device .entry); status = status; operation = operation })) ⌝ }
+    ensures { λ r. ⌜ now (buf .exit) ≡ stored (now (buf .entry)) at
+        (errorBytes (record { device = now (device .entry); status = status; operation = operation })) ⌝ }
 {
     let n = device.len();
     if buf.len() < at {
@@ -36,7 +37,7 @@ pub fn put_error(buf: &mut [u8], at: usize, device: &[u8], status: u32, operatio
     bytes::put_be4(buf, at + n + 4, operation);
 }
 
-// The n entries from a place on. They stand there as they are written.
+// The n entries from an offset on. They are in wire form already.
 fn put_errors(out: &mut [u8], at: usize, errors: &[u8], from: usize, n: usize)
     requires { ⌜ (at + errorSize * n ≤ length (now out)) × (from + errorSize * n ≤ length (now errors)) ⌝ }
     ensures { λ r. ⌜ now (out .exit) ≡ sets (now (out .entry)) at
@@ -48,8 +49,7 @@ fn put_errors(out: &mut [u8], at: usize, errors: &[u8], from: usize, n: usize)
 
 fn put_head(out: &mut [u8], at: usize, head: ReportHead)
     requires { ⌜ at + reportHeadSize ≤ length (now out) ⌝ }
-    ensures { λ r. ⌜ (now (out .exit) ≡ sets (now (out .entry)) at (headBytes head))
-        × (length (head .stateid) ≡ stateidSize) ⌝ }
+    ensures { λ r. ⌜ StoredHead (now (out .entry)) at head (now (out .exit)) ⌝ }
 {
     let stateid = head.stateid;
     bytes::put_be8(out, at, head.offset);
@@ -58,7 +58,7 @@ fn put_head(out: &mut [u8], at: usize, head: ReportHead)
     bytes::put_be4(out, at + REPORT_COUNT_OFFSET, head.errors);
 }
 
-// The reports in order, from place 4 on.
+// The reports in order, from offset 4 on.
 pub(crate) fn put_reports(
     out: &mut [u8],
     heads: [ReportHead; REPORT_ENTRIES],

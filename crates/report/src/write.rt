@@ -21,7 +21,7 @@ pub enum Written {
     Refused(Refusal),
 }
 
-// The body with the bytes of the tail behind the reports.
+// The body with the bytes of the tail after the reports.
 fn write_body(
     count: u32,
     heads: [ReportHead; REPORT_ENTRIES],

@@ -97,7 +97,8 @@ served write t store x =
 unfoldable pub mirrorsNamed : Bool → List ℕ → Layout → ℕ
 mirrorsNamed write body l =
     pick write
-    (pick (oneMirror (l .summary .flags)) (only (bestMirror body (l .starts) (l .summary .mirrors) 0)) (allOf (l .summary .mirrors)))
+    (pick (oneMirror (l .summary .flags)) (only (bestMirror body (l .starts) (l .summary .mirrors) 0))
+    (allOf (l .summary .mirrors)))
     (only (bestMirror body (l .starts) (l .summary .mirrors) 0))
 
 -- "The answer gives iomode, slot number, stripe number, offset, piece length and mirrors." "The offset on the server

@@ -56,7 +56,7 @@ fn power(n: u32) -> u32
     p
 }
 
-// Whether all mirrors are named: in a write, unless flag 8 stands in its body.
+// Whether all mirrors are named: in a write, unless flag 8 is in its body.
 fn names_all(write: bool, flags: u32) -> bool
     ensures { λ r. ⌜ r ≡ (write && not (oneMirror flags)) ⌝ }
 {

@@ -61,7 +61,7 @@ rightAt (s ∷ l) x = pick (within (s .first) (s .last) x) (s .right) (rightAt l
 
 -- ---- the list worked out afresh, byte by byte
 
--- byte x with a right, in front of the segments of the bytes behind it: "Neighbours that touch with the same right
+-- byte x with a right, in front of the segments of the bytes after it: "Neighbours that touch with the same right
 -- and body are one segment."
 unfoldable pub withByte : ℕ → Right → List Segment → List Segment
 withByte x r [] = record { first = x; last = x; right = r } ∷ []
@@ -90,9 +90,9 @@ unfoldable pub anyBelow : (ℕ → Bool) → ℕ → Bool
 anyBelow p zero = false
 anyBelow p (suc n) = p n || anyBelow p n
 
--- ---- lists in their places
+-- ---- lists in their entries
 
--- what stands in a place without a segment
+-- what is in an entry without a segment
 abbrev pub blank : Segment
 blank = record { first = 0; last = 0; right = None }
 
@@ -100,7 +100,7 @@ blank = record { first = 0; last = 0; right = None }
 unfoldable pub inEntries : List Segment → Segments
 inEntries l = record { items = padded mostSegments blank l; count = length l }
 
--- the segments in a table's places
+-- the segments in a table's entries
 abbrev pub listOf : Segments → List Segment
 listOf g = take (g .count) (g .items)
 

@@ -5,7 +5,8 @@ use base::SlotNumber;
 ghost use mathlib.Core.Path.{_≡_};
 ghost use Prim.Native.Nat.{min};
 ghost use Rattle.base.specs.Limits.{mostSegments};
-ghost use Rattle.segments.specs.Segments.{actsOn, emptyTable, kindOf, modeOf, sameRight, segmentsFor, slotNumberOf};
+ghost use Rattle.segments.specs.Segments.{actsOn, emptyTable, kindOf, modeOf, sameRight, segmentsFor};
+ghost use Rattle.segments.specs.Segments.{slotNumberOf};
 
 // The number names the slot of the layout body under which the bytes are held.
 pub enum Right {
@@ -21,7 +22,7 @@ pub struct Segment {
     pub right: Right,
 }
 
-// The segments of one iomode, in the first count places.
+// The segments of one iomode, in the first count entries.
 pub struct Segments {
     pub items: [Segment; MOST_SEGMENTS],
     pub count: usize,
@@ -44,7 +45,7 @@ pub const READ_LIST: u32 = 0;
 
 pub const RW_LIST: u32 = 1;
 
-// What stands in an unused place.
+// What is in an unused entry.
 pub const BLANK: Segment = Segment {
     first: 0,
     last: 0,
@@ -93,7 +94,7 @@ pub fn empty_table() -> Table
     }
 }
 
-// How many of the 32 places a count can mean.
+// How many of the 32 entries a count can mean.
 pub fn used_entries(count: usize) -> usize
     ensures { λ r. ⌜ r ≡ min count mostSegments ⌝ }
 {

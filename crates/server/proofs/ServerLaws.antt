@@ -1,4 +1,4 @@
--- What stands at the start of a data server that was read, and that it ends inside the bytes.
+-- What is at the start of a data server that was read, and that it ends inside the bytes.
 use Prim.Native.Nat.{ℕ, _+_, _≤_}
 use mathlib.Core.Path.{_≡_, sym, ap, _∙_}
 use mathlib.Core.List.{List}
@@ -12,7 +12,7 @@ use Rattle.server.specs.Servers.{serverEfficiencyOffset, serverHandlesOf
 use Rattle.server.specs.declared.head.ServerHead.{ServerHead}
 use Rattle.server.specs.declared.item.Server.{Server}
 
--- the device id stands at the start, then the efficiency, the stateid and the number of filehandles
+-- the device id is at the start, then the efficiency, the stateid and the number of filehandles
 pub record Head (s : List ℕ) (at : ℕ) (v : ServerHead) (p : ℕ) : Type 0 where
   pub device : v .device ≡ at
   pub efficiency : v .efficiency ≡ beValue (bytesFrom 4 s (at + serverEfficiencyOffset))

@@ -9,7 +9,7 @@ use Rattle.xdr.specs.declared.Part.{Part}
 use Rattle.server.specs.declared.head.ServerHead.{ServerHead}
 use Rattle.server.specs.declared.item.Server.{Server}
 
--- where efficiency, stateid and filehandle count stand, from the server's start
+-- where efficiency, stateid and filehandle count are, from the server's start
 abbrev pub serverEfficiencyOffset : ℕ
 serverEfficiencyOffset = deviceIdSize
 

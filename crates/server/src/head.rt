@@ -12,7 +12,7 @@ ghost use Rattle.base.specs.Refusals.{faultNumber};
 ghost use Rattle.server.specs.Servers.{serverHeadAt};
 ghost use Rattle.server.specs.Answers.{parsedOfServerHead};
 
-// Device id and stateid by their places.
+// Device id and stateid by their offsets.
 pub struct ServerHead {
     pub device: usize,
     pub efficiency: u32,

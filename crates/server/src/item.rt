@@ -15,7 +15,7 @@ ghost use Rattle.base.specs.Refusals.{faultNumber};
 ghost use Rattle.server.specs.Servers.{serverAt};
 ghost use Rattle.server.specs.Answers.{parsedOfServer};
 
-// Device id, stateid and the first filehandle's length by their places.
+// Device id, stateid and the first filehandle's length by their offsets.
 pub struct Server {
     pub device: usize,
     pub efficiency: u32,

@@ -9,5 +9,5 @@ pub use item::Server;
 pub use item::fault_of_server;
 pub use item::read_server;
 
-// Where a server's efficiency stands, from the server's start: behind the device id.
+// Where a server's efficiency is, from the server's start: after the device id.
 pub const SERVER_EFFICIENCY_OFFSET: usize = base::DEVICE_ID_SIZE;

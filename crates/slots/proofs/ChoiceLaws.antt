@@ -1,4 +1,4 @@
--- The lowest empty slot is where the reference model places a new body.
+-- The lowest empty slot is where the reference model stores a new body.
 use Prim.Native.Nat.{suc, _<_}
 use mathlib.Core.Path.{_≡_, refl, sym, ap}
 use mathlib.Core.Bool.{Bool, true, false, _||_, false≢true}

@@ -11,7 +11,8 @@ ghost use Rattle.slots.specs.Slots.{clearedFrom, isSet};
 
 // A slot that was named and is no more.
 fn clear_if_unnamed(was: bool, is: bool, i: SlotNumber, store: &mut [u8])
-    ensures { λ r. ⌜ now (store .exit) ≡ pick (was && not is) (slotSet (now (store .entry)) (i .0) empty) (now (store .entry)) ⌝ }
+    ensures { λ r. ⌜ now (store .exit) ≡ pick (was
+        && not is) (slotSet (now (store .entry)) (i .0) empty) (now (store .entry)) ⌝ }
 {
     if !was {
         return;

@@ -30,7 +30,8 @@ use Rattle.model.specs.Model.{anyByte, isUnder, segmentsIn, tableOf}
 use Rattle.model.specs.SlotsShown.{slotsFrom, slotsIn}
 use Rattle.soundness.specs.Sound.{allBlank, apart, apartFromNext, hasSlot, inOrder, isBlank, segmentsSound, slotSound, slotsSound, sound}
 use Rattle.model.specs.Claim.{rightIn}
-use Rattle.model.specs.AnyTable.{EndsBy, GoodBody, InSlot, Invariant, OfModel, Typed, modelOf}
+use Rattle.model.specs.Invariants.{GoodBody, InSlot, Invariant}
+use Rattle.soundness.specs.AnyTable.{EndsBy, OfModel, Typed, modelOf}
 use Rattle.model.proofs.Inv.{any-byte}
 use Rattle.soundness.proofs.SoundLaws.{model-sound}
 use Rattle.soundness.proofs.SoundParts.{Sounds, holding, in-order, listed, named-sound, slots-long, sound-list, sound-slot, sounds}
@@ -55,11 +56,11 @@ order-canon lo r s (c ∷ l) a b h =
       o .fit .some,
       some-right (s .right) (o .fit .under),
       b,
-      order-canon (suc (s .last)) (s .right) c l (ltb-true (s .last) (c .first) (w .0)) (turns (not-true _ (w .1))) (o .rest),
+      order-canon (suc (s .last)) (s .right) c l (ltb-true (s .last) (c .first) (w .0)) (changes (not-true _ (w .1))) (o .rest),
     )
   where
-    turns : (eqb (suc (s .last)) (c .first) && sameRight (s .right) (c .right)) ≡ false → c .first ≡ suc (s .last) → c .right ≡ s .right → ⊥
-    turns f e g = false≢true (sym f ∙ rw (eq-eqb (suc (s .last)) (c .first) (sym e), g) (same-right-refl (s .right)))
+    changes : (eqb (suc (s .last)) (c .first) && sameRight (s .right) (c .right)) ≡ false → c .first ≡ suc (s .last) → c .right ≡ s .right → ⊥
+    changes f e g = false≢true (sym f ∙ rw (eq-eqb (suc (s .last)) (c .first) (sym e), g) (same-right-refl (s .right)))
 
 pub in-order-canon : (l : List Segment) → inOrder l ≡ true → Canon 0 None l
 unfolding Canon apartFromNext apart
@@ -71,7 +72,7 @@ unfolding Below
 ends-below N [] h = tt
 ends-below N (s ∷ l) h = (omega (arith, h .0), ends-below N l (h .1))
 
--- blank places are blank
+-- blank entries are blank
 blank-is : (s : Segment) → isBlank s ≡ true → s ≡ blank
 blank-is s h =
     let p = both (eqb (s .first) 0 && eqb (s .last) 0) (sameRight None (s .right)) h in
@@ -200,7 +201,7 @@ module _ (N : ℕ) (t : Table) (store : List ℕ) (y : Typed N t store) (s : Sou
   unfolding segmentsIn modelOf rightIn
   lists-back m =
       segments-ext N _ (rightAt (listIn t m))
-      (λ x h. slot-forth (slotsIn t store) (rightAt (listIn t m) x) (s .apart) (under-at t store s m x))
+      (λ x h. slot-forth (slotsIn t store) (rightAt (listIn t m) x) (s .distinct) (under-at t store s m x))
       ∙ sym (afresh m)
 
   pub table-of-sound : tableOf N (modelOf t store) ≡ t
@@ -235,7 +236,7 @@ module _ (N : ℕ) (t : Table) (store : List ℕ) (y : Typed N t store) (s : Sou
   sound-keeps =
       record {
         eight = eight-slots;
-        apart = s .apart;
+        distinct = s .distinct;
         good = good-slot;
         in-slot = λ m x h. in-slot-right m x;
         few = λ m.

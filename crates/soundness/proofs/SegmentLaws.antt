@@ -1,4 +1,4 @@
--- Laws of the soundness of segments: two neighbours, and the blank places.
+-- Laws of the soundness of segments: two neighbours, and the blank entries.
 use Prim.Native.Nat.{ℕ, suc, _+_, _-_, _≤_, _<_}
 use mathlib.Core.Path.{_≡_, refl, ap}
 use mathlib.Core.Bool.{Bool, true, false, not, _&&_}

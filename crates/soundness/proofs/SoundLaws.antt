@@ -22,7 +22,7 @@ use Rattle.store.proofs.StoreLaws.{length-store}
 use Rattle.model.specs.Model.{ByteRight, none, granted, recalled, Model, inSlots, segmentsIn, slotOf, tableOf, withSlot}
 use Rattle.soundness.specs.Sound.{allBlank, apart, apartFromNext, hasSlot, inOrder, segmentsSound, slotSound, slotsSound, sound}
 use Rattle.model.proofs.ModelSlotLaws.{in-small}
-use Rattle.model.specs.AnyTable.{InSlot, Invariant}
+use Rattle.model.specs.Invariants.{InSlot, Invariant}
 use Rattle.model.proofs.Decode.{isHolding, list-of, model-canon, named-is, shown, slot-bytes, slots-back, whole}
 use Rattle.soundness.proofs.SoundParts.{fit-whole}
 
@@ -118,6 +118,6 @@ module _ (N : ℕ) (M : Model) (v : Invariant N M) where
         entries-sound (segmentsIn N M RW) (v .few RW) (model-in-order RW),
         slots-sound 8 0 refl,
         slots-back N M v,
-        v .apart,
+        v .distinct,
       )
       (eq-eqb (length (storeOf (M .slots))) 32768 n)

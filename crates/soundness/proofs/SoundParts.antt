@@ -118,7 +118,7 @@ module _ (t : Table) (store : List ℕ) where
 pub record Sounds (t : Table) (store : List ℕ) : Type 0 where
   pub lists : (m : Mode) → segmentsSound (segmentsFor t m) ≡ true
   pub slots : slotsSound t store 8 0 ≡ true
-  pub apart : allDistinct (slotsIn t store) ≡ true
+  pub distinct : allDistinct (slotsIn t store) ≡ true
   pub long : length store ≡ 32768
 
 pub sounds : (t : Table) (store : List ℕ) → sound t store ≡ true → Sounds t store
@@ -130,7 +130,7 @@ sounds t store h =
     let q = both slots (allDistinct (slotsIn t store)) (p .0) in
     let u = both lists (slotsSound t store 8 0) (q .0) in
     let w = both (segmentsSound (t .read)) (segmentsSound (t .rw)) (u .0) in
-    record { lists = both-lists (w .0) (w .1); slots = u .1; apart = q .1; long = eqb-true (length store) 32768 (p .1) }
+    record { lists = both-lists (w .0) (w .1); slots = u .1; distinct = q .1; long = eqb-true (length store) 32768 (p .1) }
   where
     both-lists : segmentsSound (t .read) ≡ true → segmentsSound (t .rw) ≡ true → (m : Mode) → segmentsSound (segmentsFor t m) ≡ true
     both-lists a b READ = a

@@ -18,7 +18,7 @@ use Rattle.model.specs.Model.{ByteRight, granted, recalled, inSlots, isUnder, w
 use Rattle.model.specs.SlotsShown.{allDistinct, slotsIn}
 use Rattle.soundness.specs.Sound.{hasSlot, inOrder}
 use Rattle.model.specs.Claim.{underSlot, withBody}
-use Rattle.model.specs.AnyTable.{InSlot}
+use Rattle.model.specs.Invariants.{InSlot}
 use Rattle.model.proofs.ModelSlotLaws.{held-in, held-slot}
 use Rattle.model.proofs.SlotRights.{HoldsBody, Under}
 use Rattle.soundness.proofs.SoundParts.{Sounds, in-order, listed, named-in, slot-is}

@@ -1,4 +1,4 @@
--- Laws of the soundness of slots: the next slot and the ones behind it, each alone and all distinct.
+-- Laws of the soundness of slots: the next slot and the ones after it, each alone and all distinct.
 use Prim.Native.Nat.{ℕ, suc, _+_, _-_, _≤_, _<_}
 use mathlib.Core.Path.{_≡_, refl, sym, ap, _∙_}
 use mathlib.Core.Bool.{Bool, true, false, not, _&&_, _||_, and-false}

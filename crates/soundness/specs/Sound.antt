@@ -37,7 +37,7 @@ apartFromNext s (b ∷ l) = apart s b
 unfoldable pub isFit : Segment → Bool
 isFit s = leb (s .first) (s .last) && hasSlot (s .right)
 
--- each segment by itself, and against the one behind it
+-- each segment by itself, and against the one after it
 unfoldable pub inOrder : List Segment → Bool
 inOrder [] = true
 inOrder (s ∷ l) = isFit s && apartFromNext s l && inOrder l

@@ -9,19 +9,17 @@ use base::SlotNumber;
 use layout::LayoutAnswer;
 use layout::LayoutRead;
 ghost use mathlib.Core.Path.{_≡_};
-ghost use mathlib.Core.Bool.{true, false};
+ghost use mathlib.Core.Bool.{true};
 ghost use mathlib.Core.List.{List};
 ghost use Prim.Native.Nat.{ℕ};
-ghost use lib.ListN.{replicate};
-ghost use Rattle.base.specs.Limits.{mostStarts, slotCount};
-ghost use Rattle.layout.specs.Answers.{answerOfLayout, startsIn};
+ghost use Rattle.layout.specs.Answers.{answerOfLayout};
 ghost use Rattle.layout.specs.Layouts.{layoutBody};
 ghost use Rattle.segments.specs.declared.Table.{Table};
 ghost use Rattle.lookup.specs.Lookup.{namedSlots};
 ghost use Rattle.store.specs.Store.{bodyIn};
 ghost use Rattle.base.specs.Answer.{isAccepted};
-ghost use Rattle.soundness.specs.Sound.{slotSound, slotsSound};
-ghost use Rattle.soundness.specs.Validations.{layoutNamed, notRead};
+ghost use Rattle.soundness.specs.Sound.{slotSound};
+ghost use Rattle.soundness.specs.Validations.{SlotsValidation, UnsoundValidation};
 
 // `read` is what the layout body in one slot reads as, the one that was asked for: a lookup would read it again. Where
 // nothing was read, it is refused as no bytes at all are, and its starts are 0. `named` says of each slot whether a
@@ -33,10 +31,7 @@ pub struct Validation {
 }
 
 pub(crate) fn unsound() -> Validation
-    ensures { λ r. ⌜ (r .sound ≡ false)
-        × (answerOfLayout (r .read .answer) (r .read .starts) ≡ notRead)
-        × (r .read .starts ≡ replicate mostStarts 0)
-        × (r .named ≡ replicate slotCount false) ⌝ }
+    ensures { λ r. ⌜ UnsoundValidation r ⌝ }
 {
     let read = LayoutRead {
         answer: LayoutAnswer::Refused(Fault::BytesRunOut),
@@ -60,7 +55,8 @@ fn is_accepted(answer: LayoutAnswer) -> bool
 
 // A named slot. `answer` is what its body reads as.
 fn is_filled(slot: &[u8], answer: LayoutAnswer) -> bool
-    ensures { λ r. ⌜ ((starts : List ℕ) → answerOfLayout answer starts ≡ layoutBody (bodyIn (now (slot .entry))) → r ≡ slotSound true (now (slot .entry))) ⌝ }
+    ensures { λ r. ⌜ ((starts : List ℕ) → answerOfLayout answer starts ≡ layoutBody (bodyIn (now (slot .entry)))
+        → r ≡ slotSound true (now (slot .entry))) ⌝ }
 {
     let n = store::slot_length(slot) as usize;
     if LONGEST_BODY < n {
@@ -81,13 +77,7 @@ pub(crate) fn validate_slots(
     store: &[u8],
     asked: SlotNumber,
 ) -> Validation
-    ensures { λ r. ⌜ ((t : Table) → named ≡ namedSlots t
-        → (r .sound ≡ slotsSound t (now (store .entry)) slotCount 0)
-        × (r .sound ≡ true
-        → (answerOfLayout (r .read .answer) (r .read .starts)
-        ≡ layoutNamed t (now (store .entry)) (asked .0) slotCount)
-        × (r .read .starts ≡ startsIn (layoutNamed t (now (store .entry)) (asked .0) slotCount))
-        × (r .named ≡ namedSlots t))) ⌝ }
+    ensures { λ r. ⌜ ((t : Table) → named ≡ namedSlots t → SlotsValidation t (now (store .entry)) (asked .0) r) ⌝ }
 {
     let none = unsound();
     let mut read = none.read;

@@ -21,7 +21,7 @@ pub struct Soundness {
 }
 
 // The verdict, and what the layout body in this slot reads as. The store's length is tested first, since the slots are
-// looked at by their places.
+// looked at by their offsets.
 pub fn validate_and_read(t: Table, store: &[u8], slot: SlotNumber) -> Validation
     ensures { λ r. ⌜ (r .sound ≡ sound t (now (store .entry)))
         × (answerOfLayout (r .read .answer) (r .read .starts) ≡ layoutIfSound t (now (store .entry)) (slot .0))

@@ -1,4 +1,4 @@
-// Whether the segments of one iomode are sound: in order, apart, each under a slot, and the other places blank.
+// Whether the segments of one iomode are sound: in order, apart, each under a slot, and the other entries blank.
 use base::MOST_SEGMENTS;
 use base::SLOT_COUNT;
 use segments::Right;
@@ -30,7 +30,7 @@ fn is_fit(s: Segment) -> bool
     has_slot(right)
 }
 
-// Two neighbours. The gap is a difference, since the byte behind the last one has no number.
+// Two neighbours. The gap is a difference, since the byte after the last one has no number.
 fn are_apart(a: Segment, b: Segment) -> bool
     ensures { λ r. ⌜ r ≡ apart a b ⌝ }
 {
@@ -58,7 +58,7 @@ fn is_blank(s: Segment) -> bool
     segments::same_right(Right::None, right)
 }
 
-// Each segment by itself, and with its neighbour behind it; then the places behind the last one, with no exit among
+// Each segment by itself, and with its neighbour after it; then the entries after the last one, with no exit among
 // them, which costs more than it saves.
 fn segments_sound(g: Segments) -> bool
     ensures { λ r. ⌜ r ≡ segmentsSound g ⌝ }

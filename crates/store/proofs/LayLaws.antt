@@ -1,4 +1,4 @@
--- Laws of a slot laid out anew: when the store stays as it was, and that the parts of a slot laid one behind the other are the slot.
+-- Laws of a slot laid out anew: when the store stays as it was, and that the parts of a slot laid one after the other are the slot.
 use Prim.Native.Nat.{ℕ, _+_, _-_, _*_, _≤_, _<_}
 use mathlib.Core.Path.{_≡_, refl, sym, _∙_}
 use mathlib.Core.List.{List, _++_}

@@ -1,4 +1,4 @@
--- Laws of one slot: how long it is, and that length, kind and body are read back from it, with zeros behind.
+-- Laws of one slot: how long it is, and that length, kind and body are read back from it, with zeros after.
 use Prim.Native.Nat.{ℕ, _+_, _-_, _≤_, _<_}
 use mathlib.Core.Path.{_≡_, refl, sym, ap, _∙_}
 use mathlib.Core.Bool.{true}
@@ -29,7 +29,7 @@ pub length-empty : length (slotBytes empty) ≡ 4096
 unfolding slotBytes
 length-empty = length-replicate {A = ℕ} 4096 0
 
--- what stands behind the length, and behind the kind
+-- what is after the length, and after the kind
 behind-length : (b : Body) → drop 4 (slotBytes (holds b)) ≡ leBytes 2 4 ++ (b ++ replicate (4090 - length b) 0)
 unfolding slotBytes
 behind-length b = drop-at (leBytes 4 (length b)) (leBytes 2 4 ++ (b ++ replicate (4090 - length b) 0)) 4 (length-le 4 (length b))

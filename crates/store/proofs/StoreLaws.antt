@@ -1,4 +1,4 @@
--- Laws of the whole store: where each slot stands, and that a slot laid out anew changes that slot alone.
+-- Laws of the whole store: where each slot is, and that a slot laid out anew changes that slot alone.
 use Prim.Native.Nat.{ℕ, zero, suc, _+_, _*_, _≤_, _<_}
 use mathlib.Core.Path.{_≡_, refl, sym, ap, _∙_}
 use mathlib.Core.List.{List, [], _∷_, _++_, append-assoc}
@@ -47,9 +47,9 @@ drop-slots (suc i) (s ∷ l) h =
     let e : suc i * 4096 ≡ length (slotBytes s) + i * 4096 = omega arith in
     rw (e, drop-append-add (slotBytes s) (storeOf l) (i * 4096), drop-slots i l (λ j. h (suc j)))
 
-pub slot-stands : (slots : List Slot) (i : ℕ) → AllWhole slots → i < length slots → slotAt (storeOf slots) i ≡ slotBytes (getD slots i empty)
+pub slot-is-at : (slots : List Slot) (i : ℕ) → AllWhole slots → i < length slots → slotAt (storeOf slots) i ≡ slotBytes (getD slots i empty)
 unfolding storeOf
-slot-stands slots i h k =
+slot-is-at slots i h k =
     rw (drop-slots i slots h, drop-cons slots i empty k)
     (take-at (slotBytes (getD slots i empty)) (storeOf (drop (suc i) slots)) 4096 (h i))
 

@@ -35,7 +35,7 @@ storeOf (s ∷ l) = slotBytes s ++ storeOf l
 unfoldable pub slotSet : List ℕ → ℕ → Slot → List ℕ
 slotSet store i s = pick (leb (length (slotBytes s)) slotSize) (stored store (i * slotSize) (slotBytes s)) store
 
--- the bytes of slot i, and what they say: the length stands at 0, the kind at 4, the body at 6
+-- the bytes of slot i, and what they say: the length is at 0, the kind at 4, the body at 6
 abbrev pub slotAt : List ℕ → ℕ → List ℕ
 slotAt store i = bytesFrom slotSize store (i * slotSize)
 

@@ -6,7 +6,7 @@ use base::SlotNumber;
 ghost use mathlib.Core.Path.{_≡_};
 ghost use Rattle.store.specs.Store.{empty, holds, slotSet};
 
-// The bytes of a slot behind its head.
+// The bytes of a slot after its head.
 const ROOM: usize = SLOT_SIZE - SLOT_HEAD_SIZE;
 
 pub fn lay_body(store: &mut [u8], i: SlotNumber, body: &[u8])

@@ -1,4 +1,4 @@
-// What stands in a slot: its bytes, and the length, kind and body that they say.
+// What is in a slot: its bytes, and the length, kind and body that they say.
 use crate::start;
 use base::SLOT_HEAD_SIZE;
 use base::SLOT_SIZE;
@@ -8,8 +8,8 @@ ghost use mathlib.Core.Bool.{_&&_};
 ghost use Rattle.bytes.specs.Numbers.{bytesFrom, sameBytes};
 ghost use Rattle.store.specs.Store.{bodyIn, kindIn, lengthIn, slotAt};
 
-// The n bytes from a place; fewer where the bytes run out.
-fn part(s: &[u8], at: usize, n: usize) -> &[u8]
+// The n bytes from an offset; fewer where the bytes run out.
+fn bytes_from(s: &[u8], at: usize, n: usize) -> &[u8]
     ensures { λ r. ⌜ now r ≡ bytesFrom n (now (s .entry)) at ⌝ }
 {
     let len = s.len();
@@ -26,7 +26,7 @@ fn part(s: &[u8], at: usize, n: usize) -> &[u8]
 pub fn slot_bytes(store: &[u8], i: SlotNumber) -> &[u8]
     ensures { λ r. ⌜ now r ≡ slotAt (now (store .entry)) (i .0) ⌝ }
 {
-    part(store, start(i), SLOT_SIZE)
+    bytes_from(store, start(i), SLOT_SIZE)
 }
 
 pub fn slot_length(slot: &[u8]) -> u32
@@ -45,7 +45,7 @@ pub fn slot_body(slot: &[u8]) -> &[u8]
     ensures { λ r. ⌜ now r ≡ bodyIn (now (slot .entry)) ⌝ }
 {
     let n = slot_length(slot) as usize;
-    part(slot, SLOT_HEAD_SIZE, n)
+    bytes_from(slot, SLOT_HEAD_SIZE, n)
 }
 
 // Whether a slot holds a body: one that no segment names holds none.

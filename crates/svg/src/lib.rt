@@ -64,7 +64,7 @@ pub fn print_lane(x: u64, y: u64, width: u64) {
     );
 }
 
-// One entry of the legend, and where its words stand.
+// One entry of the legend, and where its words are.
 pub fn print_entry(k: u64, x: u64, y: u64, words_x: u64, words_y: u64) {
     let values = [k, x, y, words_x, words_y, k];
     print_fields(
@@ -73,7 +73,7 @@ pub fn print_entry(k: u64, x: u64, y: u64, words_x: u64, words_y: u64) {
     );
 }
 
-// The name of what stands along an edge.
+// The name of what is along an edge.
 pub fn print_edge(name: &[u8], y: u64) {
     print_field(
         b"<text class=\"mono\" text-anchor=\"end\" x=\"308\" y=\"",

@@ -1,4 +1,4 @@
--- Laws of a push onto a list: the last segment is joined or another stands behind it, in a list and in 32 places.
+-- Laws of a push onto a list: the last segment is joined or another is after it, in a list and in 32 entries.
 use Prim.Native.Nat.{ℕ, _+_, _-_, _≤_, _<_}
 use mathlib.Core.Path.{_≡_, refl, sym, ap, _∙_}
 use mathlib.Core.Bool.{Bool, true, false}

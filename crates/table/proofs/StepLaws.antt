@@ -1,4 +1,4 @@
--- Laws of the steps of an edit: after all of them the parts before the range, what stands in it and the parts after it have been pushed.
+-- Laws of the steps of an edit: after all of them the parts before the range, what is in it and the parts after it have been pushed.
 use Prim.Native.Nat.{ℕ, _+_, _-_, _≤_, _<_, min}
 use mathlib.Core.Path.{_≡_, refl, sym}
 use mathlib.Core.List.{List, [], _∷_, _++_, append-nil, append-assoc}

@@ -25,13 +25,13 @@ abbrev pub oneOrNone : Fragment → List Segment
 oneOrNone Nothing = []
 oneOrNone (Some s) = s ∷ []
 
--- how many steps what stands in the range takes; of a clear nothing stands there
+-- how many steps what is in the range takes; of a clear nothing is there
 abbrev pub middleSteps : Change → ℕ → ℕ
 middleSteps (Grant x) n = 1
 middleSteps Clear n = 0
 middleSteps Recall n = n
 
--- what stands in the range, segment by segment
+-- what is in the range, segment by segment
 abbrev pub middleFragment : Change → ℕ → ℕ → Segment → List Segment
 middleFragment (Grant x) first last s = record { first = first; last = last; right = Granted x } ∷ []
 middleFragment Clear first last s = inside Clear first last s
@@ -42,7 +42,18 @@ unfoldable pub stepIndex : ℕ → ℕ → ℕ → ℕ
 stepIndex n m i = pick (ltb i n) i (pick (ltb i (n + m)) (i - n) (i - n - m))
 
 unfoldable pub stepFragment : Change → ℕ → ℕ → ℕ → ℕ → ℕ → Segment → List Segment
-stepFragment c first last n m i s = pick (ltb i n) (before first s) (pick (ltb i (n + m)) (middleFragment c first last s) (after last s))
+stepFragment c first last n m i s =
+    pick (ltb i n) (before first s) (pick (ltb i (n + m)) (middleFragment c first last s) (after last s))
+
+-- m is how many steps what is in the range takes, at most as many as a list has segments
+pub record MiddleCount (c : Change) (n m : ℕ) : Type 0 where
+  pub number : m ≡ middleSteps c n
+  pub bound : m ≤ mostSegments
+
+-- j is the index of the segment that step i is about, and in the list
+pub record SegmentIndex (n m i j : ℕ) : Type 0 where
+  pub index : j ≡ stepIndex n m i
+  pub bound : j < mostSegments
 
 -- ---- builders
 

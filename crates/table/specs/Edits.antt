@@ -18,7 +18,7 @@ use Rattle.table.specs.declared.change.Change.{Change}
 use Rattle.table.specs.declared.change.Change.the-variants.{Grant, Clear, Recall}
 use Rattle.table.specs.declared.change.Edited.{Edited}
 
--- ---- one segment more, behind a list
+-- ---- one segment more, after a list
 
 -- "Neighbours that touch with the same right and body are one segment."
 unfoldable pub touching : Segment → Segment → Bool
@@ -39,10 +39,13 @@ pushAll acc (s ∷ l) = pushAll (pushSeg acc s) l
 -- ---- the parts of the segments before, inside and after a range
 
 unfoldable pub before : ℕ → Segment → List Segment
-before first s = pick (ltb (s .first) first) (record { first = s .first; last = min (s .last) (first - 1); right = s .right } ∷ []) []
+before first s =
+    pick (ltb (s .first) first) (record { first = s .first; last = min (s .last) (first - 1); right = s .right }
+    ∷ []) []
 
 unfoldable pub after : ℕ → Segment → List Segment
-after last s = pick (ltb last (s .last)) (record { first = max (s .first) (last + 1); last = s .last; right = s .right } ∷ []) []
+after last s =
+    pick (ltb last (s .last)) (record { first = max (s .first) (last + 1); last = s .last; right = s .right } ∷ []) []
 
 -- "A recall turns granted into recalled and nothing else."
 abbrev pub recalledOf : Right → Right
@@ -61,7 +64,11 @@ unfoldable pub unlessNone : Segment → List Segment
 unlessNone s = pick (sameRight None (s .right)) [] (s ∷ [])
 
 abbrev pub cutInside : Change → ℕ → ℕ → Segment → Segment
-cutInside c first last s = record { first = max (s .first) first; last = min (s .last) last; right = changedRight c (s .right) }
+cutInside c first last s = record {
+  first = max (s .first) first;
+  last = min (s .last) last;
+  right = changedRight c (s .right);
+}
 
 unfoldable pub inside : Change → ℕ → ℕ → Segment → List Segment
 inside c first last s = pick (leb (s .first) last && leb first (s .last)) (unlessNone (cutInside c first last s)) []
@@ -73,7 +80,7 @@ parts g (s ∷ l) = g s ++ parts g l
 
 -- ---- the edits
 
--- what stands in the range afterwards: of a grant the whole range, of every other change the parts inside it, changed
+-- what is in the range afterwards: of a grant the whole range, of every other change the parts inside it, changed
 unfoldable pub middle : Change → ℕ → ℕ → List Segment → List Segment
 middle (Grant s) first last l = record { first = first; last = last; right = Granted s } ∷ []
 middle Clear first last l = parts (inside Clear first last) l

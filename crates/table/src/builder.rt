@@ -12,7 +12,7 @@ ghost use Rattle.base.specs.Limits.{mostSegments};
 ghost use Rattle.table.specs.Edits.{edited};
 ghost use Rattle.table.specs.Builders.{Built};
 
-// Once a segment has found no entry, the builder is full and stays so.
+// Once a segment has found no free entry, the builder is full and stays so.
 pub(crate) struct Builder {
     pub items: [Segment; MOST_SEGMENTS],
     pub count: usize,

@@ -8,7 +8,7 @@ pub enum Change {
     Recall,
 }
 
-// The segments after an edit; where they need more than 32 places, those before it.
+// The segments after an edit; where they need more than 32 entries, those before it.
 pub struct Edited {
     pub segments: Segments,
     pub fits: bool,

@@ -33,7 +33,7 @@ fn touches(a: Segment, s: Segment) -> bool
     false
 }
 
-// The index of the last segment; the first place, where there is none.
+// The index of the last segment; 0, where there is none.
 pub(crate) fn newest(count: usize) -> usize
     ensures { λ r. ⌜ r ≡ count - 1 ⌝ }
 {
@@ -78,7 +78,7 @@ fn placement_after(count: usize, a: Segment, s: Segment) -> Placement
     }
 }
 
-// The segment a stands in the newest entry. In a builder that is full any entry may be written.
+// The segment a is in the newest entry. In a builder that is full any entry may be written.
 pub(crate) fn placement_for(count: usize, full: bool, a: Segment, p: Fragment) -> Placement
     requires { ⌜ count ≤ mostSegments ⌝ }
     ensures { λ r. ⌜ Pushes count full a (oneOrNone p) r ⌝ }

@@ -1,4 +1,4 @@
-// The steps of an edit of n segments: n for their parts before the range, m for what stands in the range, n for their
+// The steps of an edit of n segments: n for their parts before the range, m for what is in the range, n for their
 // parts after it.
 use crate::change::Change;
 use crate::fragment;
@@ -8,11 +8,11 @@ use segments::Segment;
 ghost use mathlib.Core.Path.{_≡_};
 ghost use Prim.Native.Nat.{_+_, _<_, _≤_};
 ghost use Rattle.base.specs.Limits.{mostSegments};
-ghost use Rattle.table.specs.Builders.{middleFragment, middleSteps, oneOrNone, stepFragment, stepIndex};
+ghost use Rattle.table.specs.Builders.{MiddleCount, SegmentIndex, middleFragment, oneOrNone, stepFragment};
 
 pub(crate) fn middle_steps(c: Change, n: usize) -> usize
     requires { ⌜ n ≤ mostSegments ⌝ }
-    ensures { λ r. ⌜ (r ≡ middleSteps c n) × (r ≤ mostSegments) ⌝ }
+    ensures { λ r. ⌜ MiddleCount c n r ⌝ }
 {
     match c {
         Change::Grant(_) => 1,
@@ -24,7 +24,7 @@ pub(crate) fn middle_steps(c: Change, n: usize) -> usize
 // The index of the segment that step i is about.
 pub(crate) fn step_index(i: usize, n: usize, m: usize) -> usize
     requires { ⌜ (n ≤ mostSegments) × (m ≤ mostSegments) × (i < n + m + n) ⌝ }
-    ensures { λ r. ⌜ (r ≡ stepIndex n m i) × (r < mostSegments) ⌝ }
+    ensures { λ r. ⌜ SegmentIndex n m i r ⌝ }
 {
     if i < n {
         return i;
@@ -35,7 +35,7 @@ pub(crate) fn step_index(i: usize, n: usize, m: usize) -> usize
     i - n - m
 }
 
-// What stands in the range after the edit: of a grant the whole range, in its one step.
+// What is in the range after the edit: of a grant the whole range, in its one step.
 fn fragment_middle(s: Segment, c: Change, first: u64, last: u64) -> Fragment
     ensures { λ r. ⌜ oneOrNone r ≡ middleFragment c first last s ⌝ }
 {

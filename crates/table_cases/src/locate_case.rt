@@ -40,7 +40,7 @@ fn print_located(write: bool, l: Located) {
     }
 }
 
-// The payload has offset and length. The core borrows the store's first bytes, as many as are borrowed.
+// The payload has offset and length. The core is given the store's first `borrowed` bytes.
 pub fn print_locate(write: bool, payload: &[u8], table: Table, store: &[u8], borrowed: usize) {
     if store.len() < borrowed {
         return;

@@ -8,15 +8,15 @@ use lib.ListN.{length}
 use Rattle.base.specs.Limits.{errorSize, mostErrorsInAll, mostReports, reportHeadSize}
 use Rattle.bytes.specs.Numbers.{leAt}
 
--- bind: the layout's length in the last four of the first 32 bytes, and a layout body of that length behind them
+-- bind: the layout's length in the last four of the first 32 bytes, and a layout body of that length after them
 unfoldable pub isBind : List ℕ → Bool
 isBind s = leb (32 + leAt 4 s 28) (length s)
 
--- report-write: where the list length stands, behind "that many reports but at most 8", each of 36 bytes
+-- report-write: where the list length is, after "that many reports but at most 8", each of 36 bytes
 unfoldable pub errorListAt : ℕ → ℕ
 errorListAt count = 8 + reportHeadSize * min count mostReports
 
--- the list length that stands at a place is at most 128, and that many errors of 24 bytes end the payload
+-- the list length that is at an offset is at most 128, and that many errors of 24 bytes end the payload
 unfoldable pub listEnds : List ℕ → ℕ → Bool
 listEnds s at = leb (leAt 4 s at) mostErrorsInAll && eqb (length s) (at + 4 + errorSize * leAt 4 s at)
 

@@ -9,7 +9,7 @@ use print::print_fields;
 use print::print_refused;
 use print::print_text;
 
-// Where the layout body stands.
+// Where the layout body is.
 const LAYOUT_AT: usize = 32;
 
 // The entry that was chosen, and the filehandle.

@@ -21,10 +21,10 @@ pub fn is_bind(payload: &[u8]) -> bool
     32 + bytes::le4(payload, 28) as usize <= payload.len()
 }
 
-// Where it stands behind as many reports as there can be.
+// Where the list length of a report-write is after as many reports as there can be.
 const LAST_LIST: usize = 8 + REPORT_HEAD_SIZE * REPORT_ENTRIES;
 
-// Where the list length of a report-write stands.
+// Where it is after so many reports.
 pub(crate) fn error_list_at(count: u32) -> usize
     ensures { λ r. ⌜ (r ≡ errorListAt count) × (r ≤ 8 + reportHeadSize * mostReports) ⌝ }
 {

@@ -1,6 +1,6 @@
 // A device id or a stateid.
 
-// The 16 bytes at a place; 0 where they run out.
+// The 16 bytes at an offset; 0 where they run out.
 pub(crate) fn id_at(s: &[u8], at: usize) -> [u8; 16] {
     let mut bytes = [0u8; 16];
     if s.len() < at {

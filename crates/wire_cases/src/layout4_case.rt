@@ -6,7 +6,7 @@ use print::print_fault;
 use print::print_fields;
 use print::print_text;
 
-// What stands before the body.
+// What is before the body.
 fn print_frame(l: Layout4) {
     let iomode = l.iomode;
     let body = l.body;

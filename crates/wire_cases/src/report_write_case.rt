@@ -23,7 +23,7 @@ fn head_of(r: &[u8]) -> ReportHead {
     }
 }
 
-// The payload's reports; blank in the places past their count.
+// The payload's reports; blank in the entries past their count.
 fn heads_of(payload: &[u8], count: u32) -> [ReportHead; REPORT_ENTRIES] {
     let blank = head_of(b"");
     let mut heads = [blank; REPORT_ENTRIES];

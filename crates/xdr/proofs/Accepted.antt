@@ -23,7 +23,7 @@ same-value e = cc
 pub same-offset : {A : Type 0} {a b : A} {p q : ℕ} → ok a p ≡ ok b q → p ≡ q
 same-offset e = cc
 
--- the item that an accepted run began with, and the run behind it
+-- the item that an accepted run began with, and the run after it
 pub record ThenInv {A B : Type 0} (x : Parsed A) (f : A → ℕ → Parsed B) (b : B) (q : ℕ) : Type 0 where
   pub item : A
   pub next : ℕ
@@ -120,7 +120,7 @@ opaque-read least most s at v p h =
     let f : r .next ≡ at + 4 = n .number .end in
     record { count = rw (e, f) at n; bytes = rw (e, f) at b }
 
--- the bytes of an item stand inside the body
+-- the bytes of an item are inside the body
 pub opaque-within : (least most : ℕ) (s : List ℕ) (at : ℕ) (v : Part) (p : ℕ) → opaqueAt least most s at ≡ ok v p → v .start + v .len ≤ length s
 opaque-within least most s at v p h =
     let b = opaque-read least most s at v p h .bytes in

@@ -1,4 +1,4 @@
--- Laws of the place behind an item, and behind several of one kind.
+-- Laws of the offset after an item, and after several of one kind.
 use Prim.Native.Nat.{ℕ, _-_, _<_}
 use mathlib.Core.Path.{_≡_, refl}
 use mathlib.Core.List.{List}
@@ -6,7 +6,7 @@ use native.Mathlib.Omega.{arith}
 use Rattle.xdr.specs.Parsed.{Parsed, ok, fault, then, manyAt, endOf}
 use Rattle.xdr.proofs.ManyLaws.{first-then, none-then, refused-then}
 
--- what follows goes by the place alone
+-- what follows goes by the offset alone
 pub end-then : {A B : Type 0} (x : Parsed A) (f : ℕ → Parsed B) (p : ℕ) → endOf x ≡ ok tt p → then x (λ a q. f q) ≡ f p
 unfolding endOf then
 end-then (ok a q) f p e = let h : q ≡ p = cc in rw h

@@ -1,4 +1,4 @@
--- Laws of items whose bytes stand at a place: what is read where they stand, and what stands where they were read.
+-- Laws of items whose bytes are at an offset: what is read where they are, and what is where they were read.
 use Prim.Native.Nat.{ℕ, _+_, _^_, _≤_, _<_}
 use mathlib.Core.Path.{_≡_, refl, sym, ap, _∙_}
 use mathlib.Core.List.{List, [], _∷_, _++_}

@@ -1,4 +1,4 @@
--- Laws of items read into places one after the other: they are then the first of the places, and the others stay blank.
+-- Laws of items read into arrays one after the other: they are then the first of the entries, and the others stay blank.
 use Prim.Native.Nat.{ℕ, _+_, _-_, _≤_, _<_}
 use mathlib.Core.Path.{_≡_, refl}
 use mathlib.Core.List.{List}
@@ -10,46 +10,46 @@ use Rattle.base.specs.Lists.{padded}
 use Rattle.base.proofs.ListLaws.{filled-is-padded, length-padded, padded-at}
 use Rattle.xdr.specs.Parsed.{Parsed, ok, fault, then, manyAt}
 use Rattle.xdr.specs.Items.{countAt}
-use Rattle.xdr.specs.Lists.{Listed, listAt}
+use Rattle.xdr.specs.CountedLists.{Listed, listAt}
 use Rattle.xdr.proofs.Accepted.{count-read, then-inv, same-value}
 use Rattle.xdr.proofs.ManyLaws.{first-then, many-all, many-length, none-then, refused-then}
 
--- n items, of which those still to be read come into the places t from the place i on
-unfoldable pub placed : {A : Type 0} → ℕ → List A → ℕ → Parsed (List A) → Parsed (Listed A)
-placed n t i x = then x λ l q. ok (record { count = n; entries = sets t i l }) q
+-- n items, of which those still to be read come into the entries t from the index i on
+unfoldable pub filled : {A : Type 0} → ℕ → List A → ℕ → Parsed (List A) → Parsed (Listed A)
+filled n t i x = then x λ l q. ok (record { count = n; entries = sets t i l }) q
 
-all-placed : {A : Type 0} (most : ℕ) (blank : A) (n : ℕ) (x : Parsed (List A)) → ((l : List A) (q : ℕ) → x ≡ ok l q → length l ≤ most)
-    → then x (λ l q. ok (record { count = n; entries = padded most blank l }) q) ≡ placed n (replicate most blank) 0 x
-unfolding placed then
-all-placed most blank n (ok l q) h = rw (filled-is-padded most blank l (h l q refl))
-all-placed most blank n (fault k) h = refl
+all-filled : {A : Type 0} (most : ℕ) (blank : A) (n : ℕ) (x : Parsed (List A)) → ((l : List A) (q : ℕ) → x ≡ ok l q → length l ≤ most)
+    → then x (λ l q. ok (record { count = n; entries = padded most blank l }) q) ≡ filled n (replicate most blank) 0 x
+unfolding filled then
+all-filled most blank n (ok l q) h = rw (filled-is-padded most blank l (h l q refl))
+all-filled most blank n (fault k) h = refl
 
 module _ {A : Type 0} (item : List ℕ → ℕ → Parsed A) where
   -- a list whose count is read
   pub list-begun : (least most : ℕ) (blank : A) (s : List ℕ) (at n p : ℕ) → countAt least most s at ≡ ok n p
-      → listAt least most item blank s at ≡ placed n (replicate most blank) 0 (manyAt item n s p)
+      → listAt least most item blank s at ≡ filled n (replicate most blank) 0 (manyAt item n s p)
   unfolding listAt then
   list-begun least most blank s at n p h =
       let k : n ≤ most = count-read least most s at n p h .high in
-      rw h (all-placed most blank n (manyAt item n s p) (λ l q e. let j : length l ≡ n = many-length item n s p l q e in omega arith))
+      rw h (all-filled most blank n (manyAt item n s p) (λ l q e. let j : length l ≡ n = many-length item n s p l q e in omega arith))
 
   pub list-refused : (least most : ℕ) (blank : A) (s : List ℕ) (at k : ℕ) → countAt least most s at ≡ fault k → listAt least most item blank s at ≡ fault k
   unfolding listAt then
   list-refused least most blank s at k h = rw h
 
   pub listed-none : (n : ℕ) (t : List A) (i m : ℕ) (s : List ℕ) (at : ℕ) → m ≡ 0
-      → placed n t i (manyAt item m s at) ≡ ok (record { count = n; entries = t }) at
-  unfolding placed
+      → filled n t i (manyAt item m s at) ≡ ok (record { count = n; entries = t }) at
+  unfolding filled
   listed-none n t i m s at h = none-then item m s at _ h
 
   pub listed-refused : (n : ℕ) (t : List A) (i m : ℕ) (s : List ℕ) (at k : ℕ) → 0 < m → item s at ≡ fault k
-      → placed n t i (manyAt item m s at) ≡ fault k
-  unfolding placed
+      → filled n t i (manyAt item m s at) ≡ fault k
+  unfolding filled
   listed-refused n t i m s at k h e = refused-then item m s at _ k h e
 
   pub listed-next : (n : ℕ) (t : List A) (i m : ℕ) (s : List ℕ) (at : ℕ) (a : A) (p : ℕ) → i < m → item s at ≡ ok a p
-      → placed n t i (manyAt item (m - i) s at) ≡ placed n (set t i a) (i + 1) (manyAt item (m - (i + 1)) s p)
-  unfolding placed
+      → filled n t i (manyAt item (m - i) s at) ≡ filled n (set t i a) (i + 1) (manyAt item (m - (i + 1)) s p)
+  unfolding filled
   listed-next n t i m s at a p h e =
       let f : m - (i + 1) ≡ m - i - 1 = omega arith in
       rw (f, add-one i) (first-then item (m - i) s at _ a p (omega arith) e)

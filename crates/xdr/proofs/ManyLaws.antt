@@ -40,7 +40,7 @@ many-none item n s at h = rw h
 -- ---- items that were read
 
 module _ {A : Type 0} (item : List ℕ → ℕ → Parsed A) where
-  -- the first item, and those behind it
+  -- the first item, and those after it
   pub record First (n : ℕ) (s : List ℕ) (at : ℕ) (l : List A) (p : ℕ) : Type 0 where
     pub head : A
     pub next : ℕ

@@ -1,10 +1,10 @@
--- What the readers' answers say: the value and the place after it, or the number.
+-- What the readers' answers say: the value and the offset after it, or the number.
 use Prim.Native.Nat.{ℕ}
 use mathlib.Core.Bool.{Bool}
 use mathlib.Core.List.{List}
 use Rattle.base.specs.Refusals.{faultNumber}
 use Rattle.xdr.specs.Parsed.{Parsed, ok, fault}
-use Rattle.xdr.specs.Lists.{Listed}
+use Rattle.xdr.specs.CountedLists.{Listed}
 use Rattle.xdr.specs.declared.Part.{Part}
 use Rattle.xdr.specs.declared.end.ReadEnd.{ReadEnd}
 use Rattle.xdr.specs.declared.end.ReadEnd.the-variants as end
@@ -37,7 +37,7 @@ abbrev pub parsedOfEnd : ReadEnd → Parsed (Unit {0})
 parsedOfEnd (end.Value c) = ok tt (c .at)
 parsedOfEnd (end.Refused e) = fault (faultNumber e)
 
--- of a list, the answer is the count; the places stand beside it
+-- of a list, the answer is the count; the entries are beside it
 abbrev pub parsedOfList : {A : Type 0} → List A → ReadU32 → Parsed (Listed A)
 parsedOfList l (u32.Value n c) = ok (record { count = n; entries = l }) (c .at)
 parsedOfList l (u32.Refused e) = fault (faultNumber e)

@@ -1,4 +1,4 @@
--- The items of XDR, each at a place of a list of bytes. "At one item the order is: enough bytes (its padding
+-- The items of XDR, each at an offset of a list of bytes. "At one item the order is: enough bytes (its padding
 -- counted), then its value, then its padding. A length or count in front is an item of its own."
 use Prim.Native.Nat.{ℕ, _+_, _-_, _%_}
 use mathlib.Core.List.{List}
@@ -18,7 +18,7 @@ numAt k s at = pick (leb (at + k) (length s)) (ok (beValue (bytesFrom k s at)) (
 unfoldable pub boolAt : List ℕ → ℕ → Parsed Bool
 boolAt s at = then (numAt 4 s at) λ n p. pick (leb n 1) (ok (eqb n 1) p) (fault 7)
 
--- a count or a length from lo to hi; 8 outside, whatever follows: "an item of its own"
+-- a count or a length from least to most; 8 outside, whatever follows: "an item of its own"
 unfoldable pub countAt : ℕ → ℕ → List ℕ → ℕ → Parsed ℕ
 countAt least most s at = then (numAt 4 s at) λ n p. pick (leb least n && leb n most) (ok n p) (fault 8)
 
@@ -26,13 +26,14 @@ countAt least most s at = then (numAt 4 s at) λ n p. pick (leb least n && leb n
 abbrev pub padding : ℕ → ℕ
 padding n = (4 - n % 4) % 4
 
--- n bytes and their padding; the value is where they stand
+-- n bytes and their padding; the value is where they are
 unfoldable pub bytesAt : ℕ → List ℕ → ℕ → Parsed Part
 bytesAt n s at =
     pick (leb (at + n + padding n) (length s))
-    (pick (allZero (bytesFrom (padding n) s (at + n))) (ok (record { start = at; len = n }) (at + n + padding n)) (fault 6))
+    (pick (allZero (bytesFrom (padding n) s (at + n))) (ok (record { start = at; len = n }) (at + n + padding n))
+    (fault 6))
     (fault 1)
 
--- "Variable opaque and string data have a 4-byte length, the bytes, then 0 to 3 zero bytes": of lo to hi bytes
+-- "Variable opaque and string data have a 4-byte length, the bytes, then 0 to 3 zero bytes": of least to most bytes
 unfoldable pub opaqueAt : ℕ → ℕ → List ℕ → ℕ → Parsed Part
 opaqueAt least most s at = then (countAt least most s at) λ n p. bytesAt n s p

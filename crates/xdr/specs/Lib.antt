@@ -1,4 +1,4 @@
 pub mod Parsed
 pub mod Items
-pub mod Lists
+pub mod CountedLists
 pub mod Answers

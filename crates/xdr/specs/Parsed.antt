@@ -1,4 +1,4 @@
--- Items read one after the other: a value with the place after it (ok), or the number of the first fault met (no).
+-- Items read one after the other: a value with the offset after it (ok), or the number of the first fault met (fault).
 use Prim.Native.Nat.{ℕ, zero, suc}
 use mathlib.Core.List.{List, [], _∷_}
 use lib.ListN.{length}
@@ -24,12 +24,12 @@ unfoldable pub whole : {A : Type 0} → List ℕ → Parsed A → Answer A
 whole s (ok a at) = pick (eqb at (length s)) (accepted a) (refused 2)
 whole s (fault n) = refused n
 
--- a check of what was just read, as an item of no bytes: its number refuses, its value goes on from the same place
+-- a check of what was just read, as an item of no bytes: its number refuses, its value goes on from the same offset
 unfoldable pub asItem : {A : Type 0} → Answer A → ℕ → Parsed A
 asItem (accepted a) at = ok a at
 asItem (refused n) at = fault n
 
--- only the place behind an item
+-- only the offset after an item
 unfoldable pub endOf : {A : Type 0} → Parsed A → Parsed (Unit {0})
 endOf x = then x λ a at. ok tt at
 

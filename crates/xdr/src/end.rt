@@ -6,7 +6,7 @@ ghost use Rattle.base.specs.Refusals.{faultNumber};
 ghost use Rattle.xdr.specs.Parsed.{faultIn};
 ghost use Rattle.xdr.specs.Answers.{parsedOfEnd};
 
-// The place behind what was read.
+// The offset after what was read.
 pub enum ReadEnd {
     Value(Cursor),
     Refused(Fault),

@@ -34,7 +34,7 @@ pub fn read_bool(s: &[u8], c: Cursor) -> ReadBool
     ReadBool::Value(n == 1, d)
 }
 
-// A count or a length, from lo to hi.
+// A count or a length, from least to most.
 pub fn read_count(s: &[u8], c: Cursor, least: u32, most: u32) -> ReadU32
     ensures { λ r. ⌜ parsedOfU32 r ≡ countAt least most (now (s .entry)) (c .at) ⌝ }
 {
@@ -74,7 +74,7 @@ pub fn read_bytes(s: &[u8], c: Cursor, n: usize) -> ReadPart
     ReadPart::Value(Part { start: at, len: n }, Cursor { at: next })
 }
 
-// Variable opaque or string data of lo to hi bytes.
+// Variable opaque or string data of least to most bytes.
 pub fn read_opaque(s: &[u8], c: Cursor, least: u32, most: u32) -> ReadPart
     ensures { λ r. ⌜ parsedOfPart r ≡ opaqueAt least most (now (s .entry)) (c .at) ⌝ }
 {

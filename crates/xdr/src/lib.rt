@@ -20,12 +20,12 @@ pub use number::fault_of_u64;
 pub use number::read_u32;
 pub use number::read_u64;
 
-// The place of the next item.
+// The offset of the next item.
 pub struct Cursor {
     pub at: usize,
 }
 
-// Where the bytes of an item stand.
+// Where the bytes of an item are.
 pub struct Part {
     pub start: usize,
     pub len: usize,

@@ -42,7 +42,7 @@ pub enum Item {
     PaddingOf(Opaque),
 }
 
-/// A body and the places of its items.
+/// A body and the offsets of its items.
 #[derive(Clone, Debug, Default, PartialEq, Eq)]
 pub struct Wire {
     pub bytes: Vec<u8>,
@@ -75,19 +75,19 @@ impl Wire {
         }
     }
 
-    /// The places of an item, in the body's order.
-    pub fn places(&self, item: Item) -> Vec<usize> {
+    /// The offsets of an item, in the body's order.
+    pub fn offsets(&self, item: Item) -> Vec<usize> {
         let of_item = self.marks.iter().filter(|mark| mark.0 == item);
         of_item.map(|mark| mark.1).collect()
     }
 
     /// Where the body can be cut in front of an item.
-    pub fn item_places(&self) -> Vec<usize> {
+    pub fn item_offsets(&self) -> Vec<usize> {
         self.marks.iter().map(|mark| mark.1).collect()
     }
 
-    /// The places of all padding bytes.
-    pub fn padding_places(&self) -> Vec<usize> {
+    /// The offsets of all padding bytes.
+    pub fn padding_offsets(&self) -> Vec<usize> {
         let paddings = self.marks.iter().filter(|mark| matches!(mark.0, Item::PaddingOf(_)));
         paddings.flat_map(|mark| mark.1..mark.1.next_multiple_of(4)).collect()
     }
@@ -99,12 +99,12 @@ impl Wire {
 
     /// A copy in which a number of 4 bytes is another one.
     pub fn with_uint(&self, item: Item, which: usize, value: u32) -> Vec<u8> {
-        overwritten(&self.bytes, self.places(item)[which], &value.to_be_bytes())
+        overwritten(&self.bytes, self.offsets(item)[which], &value.to_be_bytes())
     }
 
     /// A copy in which a number of 8 bytes is another one.
     pub fn with_uhyper(&self, item: Item, which: usize, value: u64) -> Vec<u8> {
-        overwritten(&self.bytes, self.places(item)[which], &value.to_be_bytes())
+        overwritten(&self.bytes, self.offsets(item)[which], &value.to_be_bytes())
     }
 }
 
@@ -120,8 +120,8 @@ pub fn extended(bytes: &[u8], more: &[u8]) -> Vec<u8> {
     [bytes, more].concat()
 }
 
-/// Bytes that differ from place to place and never are 0, so that a mix-up of
-/// two places shows and content is not taken for padding.
+/// Bytes that differ from offset to offset and never are 0, so that a mix-up of
+/// two offsets shows and content is not taken for padding.
 pub fn pattern(first: u8, length: usize) -> Vec<u8> {
     let byte_at = |place: usize| ((usize::from(first) * 37 + place * 11) % 255) as u8 + 1;
     (0..length).map(byte_at).collect()

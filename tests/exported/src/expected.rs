@@ -103,7 +103,7 @@ pub fn head(h: &report::ReportHead) -> ReportHead {
     ReportHead { offset: h.offset, length: h.length, stateid: h.stateid, errors: h.error_count }
 }
 
-/// The errors of a report stand behind its head, which has 36 bytes, 24 bytes each.
+/// The errors of a report are after its head, which has 36 bytes, 24 bytes each.
 pub fn reports(read: Result<Reports, Refusal>) -> ReportsResult {
     let mut result = ReportsResult::default();
     match read {
@@ -121,7 +121,7 @@ pub fn reports(read: Result<Reports, Refusal>) -> ReportsResult {
     result
 }
 
-/// The error at a place of a body: "device id, status, operation".
+/// The error at an offset of a body: "device id, status, operation".
 pub fn error(body: &[u8], at: usize) -> ErrorResult {
     match report::read_error(&mut Cursor::starting_at(body, at)) {
         Ok(e) => ErrorResult { refusal: 0, device: at, status: e.status, operation: e.operation },

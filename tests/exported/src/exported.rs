@@ -6,7 +6,7 @@ use independent::io_request::{Direction, IoRequest};
 use independent::iomode::Iomode;
 use independent::locate::Location;
 use independent::segments::{Right, Segment};
-use independent::table::{Places, Table};
+use independent::table::{Entries, Table};
 
 pub struct Exported {
     pub table: TableRecord,
@@ -48,26 +48,26 @@ impl Exported {
         Ok(Location { iomode, slot: r.slot, stripe: r.stripe, offset: r.offset, length: r.length, mirrors: r.mirrors })
     }
 
-    /// Overwrites a place; as in `answers`, the count is that of the places before the first blank one.
-    pub fn set_segment(&mut self, iomode: Iomode, place: usize, segment: &Segment) {
-        let (places, count) = match iomode {
+    /// Overwrites an entry; as in `answers`, the count is that of the entries before the first blank one.
+    pub fn set_segment(&mut self, iomode: Iomode, index: usize, segment: &Segment) {
+        let (entries, count) = match iomode {
             Iomode::Read => (&mut self.table.read, &mut self.table.read_count),
             Iomode::ReadWrite => (&mut self.table.rw, &mut self.table.rw_count),
         };
-        places[place] = segment_record(segment);
-        *count = used(places);
+        entries[index] = segment_record(segment);
+        *count = used(entries);
     }
 }
 
 /// The record of the independent table.
 pub fn record_of(table: &Table) -> TableRecord {
-    let records = |places: &Places| places.each_ref().map(segment_record);
-    let (read, rw) = (records(table.places(Iomode::Read)), records(table.places(Iomode::ReadWrite)));
+    let records = |entries: &Entries| entries.each_ref().map(segment_record);
+    let (read, rw) = (records(table.entries(Iomode::Read)), records(table.entries(Iomode::ReadWrite)));
     TableRecord { read, rw, read_count: used(&read), rw_count: used(&rw) }
 }
 
-fn used(places: &[SegmentRecord]) -> u64 {
-    places.iter().position(|place| *place == SegmentRecord::default()).unwrap_or(places.len()) as u64
+fn used(entries: &[SegmentRecord]) -> u64 {
+    entries.iter().position(|entry| *entry == SegmentRecord::default()).unwrap_or(entries.len()) as u64
 }
 
 fn segment_record(segment: &Segment) -> SegmentRecord {

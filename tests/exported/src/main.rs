@@ -78,13 +78,13 @@ fn compare(state: &mut State, exported: &mut Exported, case: &TableCase, tally: 
             tally.count(answered.as_ref().err().copied().unwrap_or(0));
             same("the request's answer", expected, answered)?;
         }
-        TableCase::SetByte { place, value } => {
-            state.set_byte(*place, *value);
-            exported.store[*place] = *value;
+        TableCase::SetByte { offset, value } => {
+            state.set_byte(*offset, *value);
+            exported.store[*offset] = *value;
         }
-        TableCase::SetSegment { iomode, place, segment } => {
-            state.set_segment(*iomode, *place, *segment);
-            exported.set_segment(*iomode, *place, segment);
+        TableCase::SetSegment { iomode, index, segment } => {
+            state.set_segment(*iomode, *index, *segment);
+            exported.set_segment(*iomode, *index, segment);
         }
         TableCase::SetBorrowed(length) => {
             state.set_borrowed(*length);

@@ -11,7 +11,7 @@ use independent::layout::read_layout_body;
 use independent::layout4::read_layout4;
 use independent::report::{read_reports, write_reports, DeviceError};
 
-/// What stands in an output before it is written to.
+/// What is in an output before it is written to.
 const FILL: u8 = 165;
 
 pub fn compare(case: &Case, tally: &mut Tally) -> Result<(), String> {
@@ -50,7 +50,7 @@ pub fn compare(case: &Case, tally: &mut Tally) -> Result<(), String> {
     }
 }
 
-/// The errors of an accepted body, each read at its place by the wrapper; or the refusal.
+/// The errors of an accepted body, each read at its offset by the wrapper; or the refusal.
 fn compare_walk(body: &[u8], refusal: u32, errors: &[DeviceError]) -> Result<(), String> {
     let record = |e: IoError| ErrorRecord { device: e.device.0, status: e.status, operation: e.operation as u32 };
     let read = basilothyn::read_reports(body).map_err(Refusal::number);
@@ -59,7 +59,7 @@ fn compare_walk(body: &[u8], refusal: u32, errors: &[DeviceError]) -> Result<(),
     same("the errors of the reports", expected, walked)
 }
 
-/// An error at every place of a body, whatever the body is, and behind its end.
+/// An error at every offset of a body, whatever the body is, and after its end.
 fn compare_errors(body: &[u8], tally: &mut Tally) -> Result<(), String> {
     for at in (0..body.len() + 25).chain([usize::MAX - 24, usize::MAX - 15, usize::MAX]) {
         same("the error at a place", (at, expected::error(body, at)), (at, raw::read_error(body, at)))?;

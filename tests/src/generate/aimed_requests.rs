@@ -10,7 +10,7 @@ use independent::state::State;
 use independent::store::{body_in, slots};
 use independent::table_cases::TableCase;
 
-/// Several requests, by the table as it stands.
+/// Several requests, by the table as it is.
 pub fn aimed_requests(random: &mut Random, state: &State, most: usize) -> Vec<TableCase> {
     let count = random.between(1, most);
     (0..count).map(|_| TableCase::Locate(aimed_request(random, state))).collect()

@@ -44,7 +44,7 @@ pub fn add_record_without_form(cases: &mut CaseFileWriter, random: &mut Random) 
     add_case(cases, random);
 }
 
-/// A byte behind the store, more of it than there is, and an iomode, place,
+/// A byte after the store, more of it than there is, and an iomode, place,
 /// right or slot that no segment can be set to.
 fn add_table_number_beyond_its_limit(cases: &mut CaseFileWriter, random: &mut Random) {
     match random.below(3) {
@@ -64,7 +64,7 @@ fn add_table_number_beyond_its_limit(cases: &mut CaseFileWriter, random: &mut Ra
 /// One byte more or less than a case of the table has.
 fn add_table_payload_of_another_length(cases: &mut CaseFileWriter, random: &mut Random) {
     let numbers = RangeNumbers { offset: 0, length: u64::MAX, iomode: IOMODE_ANY };
-    let segment = TableCase::SetSegment { iomode: Iomode::Read, place: 0, segment: Segment::default() };
+    let segment = TableCase::SetSegment { iomode: Iomode::Read, index: 0, segment: Segment::default() };
     let all = [
         TableCase::Event(Event::Return(numbers)),
         TableCase::Event(Event::Recall(numbers)),
@@ -73,7 +73,7 @@ fn add_table_payload_of_another_length(cases: &mut CaseFileWriter, random: &mut 
         TableCase::Locate(IoRequest::write(0, 1)),
         TableCase::ShowTable,
         TableCase::ShowStore,
-        TableCase::SetByte { place: 0, value: 0 },
+        TableCase::SetByte { offset: 0, value: 0 },
         segment,
         TableCase::Reset,
         TableCase::SetBorrowed(0),

@@ -14,7 +14,7 @@ pub fn corruption_and_repair(random: &mut Random, state: &State, calls: Vec<Tabl
     let (corruption, repair) = match random.below(5) {
         0 => (TableCase::SetBorrowed(borrowed_length(random)), TableCase::SetBorrowed(STORE_LENGTH)),
         1 | 2 => corrupt_byte(random, state),
-        _ => corrupt_place(random, state),
+        _ => corrupt_entry(random, state),
     };
     let mut cases = vec![corruption];
     cases.extend(calls);
@@ -27,7 +27,7 @@ fn borrowed_length(random: &mut Random) -> usize {
     random.pick(&[0, 1, 4_096, 16_384, 32_767, 32_768, any])
 }
 
-/// A byte of a header, of a body, behind it, or anywhere.
+/// A byte of a header, of a body, after it, or anywhere.
 fn corrupt_byte(random: &mut Random, state: &State) -> (TableCase, TableCase) {
     let in_slot = match random.below(4) {
         0 => random.below(6),
@@ -35,19 +35,19 @@ fn corrupt_byte(random: &mut Random, state: &State) -> (TableCase, TableCase) {
         2 => random.pick(&[86, 142, 146, 150, 4_095]),
         _ => random.below(SLOT_LENGTH),
     };
-    let place = random.below(SLOT_COUNT) * SLOT_LENGTH + in_slot;
-    let old = state.store[place];
+    let offset = random.below(SLOT_COUNT) * SLOT_LENGTH + in_slot;
+    let old = state.store[offset];
     let value = random.pick(&[0, 1, 4, 80, 255, old ^ 1]);
-    (TableCase::SetByte { place, value }, TableCase::SetByte { place, value: old })
+    (TableCase::SetByte { offset, value }, TableCase::SetByte { offset, value: old })
 }
 
-/// A place of the table, mostly among the segments, in which one thing differs.
-fn corrupt_place(random: &mut Random, state: &State) -> (TableCase, TableCase) {
+/// An entry of the table, mostly among the segments, in which one thing differs.
+fn corrupt_entry(random: &mut Random, state: &State) -> (TableCase, TableCase) {
     let iomode = random.pick(&Iomode::BOTH);
     let count = state.table.segments(iomode).len();
-    let place = if random.once_in(8) { SEGMENT_LIMIT - 1 } else { random.below(count + 1) };
-    let place = place.min(SEGMENT_LIMIT - 1);
-    let old = state.table.places(iomode)[place];
+    let index = if random.once_in(8) { SEGMENT_LIMIT - 1 } else { random.below(count + 1) };
+    let index = index.min(SEGMENT_LIMIT - 1);
+    let old = state.table.entries(iomode)[index];
     let slot = random.pick(&[0, 1, 2, 7, 8, 255]);
     let segment = match random.below(7) {
         0 => Segment { first: old.first.wrapping_sub(1), ..old },
@@ -58,6 +58,6 @@ fn corrupt_place(random: &mut Random, state: &State) -> (TableCase, TableCase) {
         5 => Segment { right: Right::Recalled(slot), ..old },
         _ => Segment::default(),
     };
-    let set = |segment| TableCase::SetSegment { iomode, place, segment };
+    let set = |segment| TableCase::SetSegment { iomode, index, segment };
     (set(segment), set(old))
 }

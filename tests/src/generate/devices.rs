@@ -109,7 +109,7 @@ fn add_lengths(bodies: &mut Vec<Vec<u8>>) {
     }
 }
 
-/// Entries that keep and that break the rule, first and behind a good one.
+/// Entries that keep and that break the rule, first and after a good one.
 fn add_version_entries(bodies: &mut Vec<Vec<u8>>) {
     let mut entries: Vec<VersionPlan> = Vec::new();
     for version in [0, 1, 2, 3, 4, 5, 259, 260, 1 << 26, u32::MAX] {
@@ -127,7 +127,7 @@ fn add_version_entries(bodies: &mut Vec<Vec<u8>>) {
     }
 }
 
-/// 7, and its place before 12 but behind earlier entries' 12.
+/// 7, and that it is before 12 but after earlier entries' 12.
 fn add_booleans(bodies: &mut Vec<Vec<u8>>) {
     for tight in [2, 3, 255, 256, 1 << 24, 1 << 31, u32::MAX] {
         for entry in [[4, 1, 1, 1, tight], [3, 0, 1, 1, tight], [9, 9, 0, 0, tight]] {
@@ -150,7 +150,7 @@ fn add_cuts(bodies: &mut Vec<Vec<u8>>) {
     let larger = two_by_two().encode();
     let quarters = (0..larger.bytes.len()).step_by(4);
     bodies.extend(quarters.map(|length| larger.bytes[..length].to_vec()));
-    for place in larger.item_places() {
+    for place in larger.item_offsets() {
         bodies.push(larger.bytes[..place + 1].to_vec());
     }
 }
@@ -164,10 +164,10 @@ fn add_limits(bodies: &mut Vec<Vec<u8>>) {
         (Item::VersionCount, 9),
     ];
     for (item, above) in counts {
-        let last = wire.places(item).len() - 1;
+        let last = wire.offsets(item).len() - 1;
         for value in [0, above, above + 3, 1 << 24, u32::MAX] {
             let body = wire.with_uint(item, 0, value);
-            bodies.push(body[..wire.places(item)[0] + 4].to_vec());
+            bodies.push(body[..wire.offsets(item)[0] + 4].to_vec());
             bodies.push(body);
             if last > 0 {
                 bodies.push(wire.with_uint(item, last, value));
@@ -195,14 +195,14 @@ fn add_true_counts_past_the_limit(bodies: &mut Vec<Vec<u8>>) {
 
 fn add_padding(bodies: &mut Vec<Vec<u8>>) {
     let wire = two_by_two().encode();
-    for place in wire.padding_places() {
+    for place in wire.padding_offsets() {
         for value in [1, 0x40, 0xff] {
             let corrupted = overwritten(&wire.bytes, place, &[value]);
             bodies.push(corrupted[..place + 1].to_vec());
             bodies.push(corrupted);
         }
     }
-    let netid = wire.places(Item::PaddingOf(Opaque::Netid))[0];
+    let netid = wire.offsets(Item::PaddingOf(Opaque::Netid))[0];
     let corrupted = wire.holding(overwritten(&wire.bytes, netid, &[9]));
     bodies.push(corrupted.with_uint(Item::AddressCount, 0, 9));
     bodies.push(corrupted.with_uint(Item::LengthOf(Opaque::Address), 0, 65));

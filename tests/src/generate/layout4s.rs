@@ -115,7 +115,7 @@ fn add_orders(layouts: &mut Vec<Vec<u8>>) {
     }
 }
 
-/// Bytes behind the body, and its padding.
+/// Bytes after the body, and its padding.
 fn add_tails(layouts: &mut Vec<Vec<u8>>) {
     let head = Layout4Head::whole_file();
     let smallest = head.around(&smallest_body());
@@ -146,7 +146,7 @@ fn add_bodies(layouts: &mut Vec<Vec<u8>>) {
     layouts.push(head.around(&wire.with_uhyper(Item::Unit, 0, 1)));
     layouts.push(head.around(&wire.with_uint(Item::ServerCount, 1, 2)));
     layouts.push(head.around(&wire.with_uint(Item::Flags, 0, 32)));
-    for place in wire.padding_places() {
+    for place in wire.padding_offsets() {
         let corrupted = overwritten(&wire.bytes, place, &[4]);
         layouts.push(extended(&head.around(&corrupted), &[0]));
         layouts.push(head.around(&corrupted));

@@ -91,12 +91,12 @@ fn add_cuts(bodies: &mut Vec<Vec<u8>>) {
     let larger = LayoutPlan::two_by_two().encode();
     let quarters = (0..larger.bytes.len()).step_by(4);
     bodies.extend(quarters.map(|length| larger.bytes[..length].to_vec()));
-    for place in larger.item_places().into_iter().step_by(3) {
+    for place in larger.item_offsets().into_iter().step_by(3) {
         bodies.push(larger.bytes[..place + 1].to_vec());
     }
 }
 
-/// Each count and length outside its limit, at its first and its last place.
+/// Each count and length outside its limit, at its first and its last occurrence.
 pub fn limits(wire: &Wire) -> Vec<Vec<u8>> {
     let counts = [
         (Item::MirrorCount, &[0, 9, 256, 1 << 31, u32::MAX][..]),
@@ -108,11 +108,11 @@ pub fn limits(wire: &Wire) -> Vec<Vec<u8>> {
     ];
     let mut bodies = Vec::new();
     for (item, values) in counts {
-        let last = wire.places(item).len() - 1;
+        let last = wire.offsets(item).len() - 1;
         for &value in values {
             let body = wire.with_uint(item, 0, value);
-            // Nothing behind the number: it is an item of its own.
-            bodies.push(body[..wire.places(item)[0] + 4].to_vec());
+            // Nothing after the number: it is an item of its own.
+            bodies.push(body[..wire.offsets(item)[0] + 4].to_vec());
             bodies.push(body);
             if last > 0 && value <= 129 {
                 bodies.push(wire.with_uint(item, last, value));
@@ -141,7 +141,7 @@ fn add_true_counts_past_the_limit(bodies: &mut Vec<Vec<u8>>) {
 /// Each padding byte of a body with every kind of padding.
 fn add_padding(bodies: &mut Vec<Vec<u8>>) {
     let wire = LayoutPlan::two_by_two().encode();
-    for place in wire.padding_places() {
+    for place in wire.padding_offsets() {
         // Each of the eight bits has its turn.
         bodies.push(overwritten(&wire.bytes, place, &[1 << (place % 8)]));
     }
@@ -160,7 +160,7 @@ fn add_unit_disagreements(bodies: &mut Vec<Vec<u8>>) {
     }
     let two = LayoutPlan::plain(2, 2).encode();
     let one_with_unit = LayoutPlan { unit: 1, ..LayoutPlan::plain(2, 1) }.encode();
-    // 8 before 10 at the same count, 10 before all that stands behind it.
+    // 8 before 10 at the same count, 10 before all that is after it.
     for count in [0, 17, u32::MAX] {
         let no_unit = two.holding(two.with_uhyper(Item::Unit, 0, 0));
         bodies.push(no_unit.with_uint(Item::ServerCount, 0, count));
@@ -191,7 +191,7 @@ fn add_count_differences(bodies: &mut Vec<Vec<u8>>) {
         bodies.push(LayoutPlan { unit: u64::from(later > 1), ..plan }.encode().bytes);
     }
     let differing = one.with_uint(Item::ServerCount, 1, 2);
-    bodies.push(differing[..one.places(Item::ServerCount)[1] + 4].to_vec());
+    bodies.push(differing[..one.offsets(Item::ServerCount)[1] + 4].to_vec());
 }
 
 /// Each unknown flag bit, alone and beside known ones.
@@ -216,7 +216,7 @@ pub fn body_of_length(length: usize) -> Vec<u8> {
     let mut plan = LayoutPlan::plain(2, 14);
     let mut missing = length - plan.encode().bytes.len();
     for server in plan.mirrors.iter_mut().flatten() {
-        // Each filehandle of up to 128 bytes stands in place of one of 1 byte.
+        // Each filehandle of up to 128 bytes is in place of one of 1 byte.
         let more = missing.min(124) / 4 * 4;
         server.filehandles[0] = pattern(server.efficiency as u8, more + 4);
         missing -= more;
@@ -241,7 +241,7 @@ fn add_sizes(bodies: &mut Vec<Vec<u8>>) {
 /// Two faults in one body: the first one met decides.
 fn add_two_faults(bodies: &mut Vec<Vec<u8>>) {
     let wire = LayoutPlan::two_by_two().encode();
-    let padding = wire.places(Item::PaddingOf(Opaque::Filehandle))[0];
+    let padding = wire.offsets(Item::PaddingOf(Opaque::Filehandle))[0];
     let corrupted = overwritten(&wire.bytes, padding, &[1]);
     bodies.push(corrupted[..padding].to_vec());
     bodies.push(corrupted[..padding + 1].to_vec());

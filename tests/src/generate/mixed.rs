@@ -87,7 +87,7 @@ fn perhaps_damaged(random: &mut Random, wire: &Wire) -> Vec<u8> {
 }
 
 fn corrupt_padding(random: &mut Random, wire: &Wire, bytes: &mut [u8]) {
-    let places = wire.padding_places();
+    let places = wire.padding_offsets();
     if !places.is_empty() {
         bytes[random.pick(&places)] = random.between(1, 255) as u8;
     }
@@ -96,7 +96,7 @@ fn corrupt_padding(random: &mut Random, wire: &Wire, bytes: &mut [u8]) {
 /// A number near a limit in the first four bytes of some item.
 fn corrupt_item(random: &mut Random, wire: &Wire, bytes: &mut [u8]) {
     let numbers = [0, 1, 2, 3, 4, 5, 7, 8, 9, 15, 16, 17, 25, 38, 64, 65, 128, 129, 1 << 31, u32::MAX];
-    let place = random.pick(&wire.item_places());
+    let place = random.pick(&wire.item_offsets());
     if let Some(target) = bytes.get_mut(place..place + 4) {
         target.copy_from_slice(&random.pick(&numbers).to_be_bytes());
     }

@@ -90,10 +90,10 @@ fn add_limits(bodies: &mut Vec<Vec<u8>>) {
         (Item::StatisticsCount, &[1, 2, 8, 256, 1 << 24, 1 << 31, u32::MAX]),
     ];
     for (item, values) in counts {
-        let last = wire.places(item).len() - 1;
+        let last = wire.offsets(item).len() - 1;
         for &value in values {
             let body = wire.with_uint(item, last, value);
-            bodies.push(body[..wire.places(item)[last] + 4].to_vec());
+            bodies.push(body[..wire.offsets(item)[last] + 4].to_vec());
             bodies.push(extended(&body, &[0; 4]));
             bodies.push(body);
             bodies.push(wire.with_uint(item, 0, value));
@@ -116,7 +116,7 @@ fn add_cuts(bodies: &mut Vec<Vec<u8>>) {
     let larger = encoded(&[2, 1]);
     let quarters = (0..larger.bytes.len()).step_by(4);
     bodies.extend(quarters.map(|length| larger.bytes[..length].to_vec()));
-    for place in larger.item_places() {
+    for place in larger.item_offsets() {
         bodies.push(larger.bytes[..place + 1].to_vec());
     }
 }

@@ -145,7 +145,7 @@ fn add_list_lengths(cases: &mut Vec<ReportWrite>) {
 }
 
 /// Counts whose sum is the list's length only if it wraps at 32 bits. The
-/// faults of the reports behind that test must not be met.
+/// faults of the reports after that test must not be met.
 fn add_wrapping_counts(cases: &mut Vec<ReportWrite>) {
     let half = 1 << 31;
     let counts: [(&[u32], usize); 8] = [

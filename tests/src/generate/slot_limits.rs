@@ -131,7 +131,7 @@ fn add_before_the_segment_limit(cases: &mut CaseFileWriter) {
     show(cases);
 }
 
-/// A slot is written whole: nothing of a longer body stays behind it.
+/// A slot is written whole: nothing of a longer body stays after it.
 fn add_long_bodies(cases: &mut CaseFileWriter) {
     cases.table(&TableCase::Reset);
     cases.event(grant(2, 0, 9, &body_of_length(4_088)));

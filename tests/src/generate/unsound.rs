@@ -13,7 +13,7 @@ use independent::store::{BODY_IN_SLOT, SLOT_LENGTH, STORE_LENGTH};
 use independent::table_cases::TableCase;
 
 pub fn add(cases: &mut CaseFileWriter) {
-    for corruption in corrupt_slots().into_iter().chain(corrupt_places()) {
+    for corruption in corrupt_slots().into_iter().chain(corrupt_entries()) {
         add_corrupted(cases, &[corruption]);
     }
     for length in [0, 1, 4_095, 4_096, 32_767, 32_768] {
@@ -70,7 +70,7 @@ fn add_each_call(cases: &mut CaseFileWriter) {
     cases.event(Event::Revoke);
 }
 
-/// One byte set, in a header, a body, the zeros behind it, or a slot that no
+/// One byte set, in a header, a body, the zeros after it, or a slot that no
 /// segment names. Some of these leave an accepted body.
 fn corrupt_slots() -> Vec<TableCase> {
     let length = two_bodies()[0].len();
@@ -85,41 +85,41 @@ fn corrupt_slots() -> Vec<TableCase> {
         4_095,
     ]);
     let mut cases = Vec::new();
-    for place in in_slot {
+    for offset in in_slot {
         for slot in [0, 1] {
-            cases.push(TableCase::SetByte { place: slot * SLOT_LENGTH + place, value: 0x55 });
+            cases.push(TableCase::SetByte { offset: slot * SLOT_LENGTH + offset, value: 0x55 });
         }
     }
     for value in [0, 1, 79, 81, 84, 250, 255] {
-        cases.push(TableCase::SetByte { place: 0, value });
+        cases.push(TableCase::SetByte { offset: 0, value });
     }
-    for place in [2, 3, 5, 7].map(|slot| slot * SLOT_LENGTH) {
+    for offset in [2, 3, 5, 7].map(|slot| slot * SLOT_LENGTH) {
         for inside in [0, 4, 6, 2_000, 4_095] {
-            cases.push(TableCase::SetByte { place: place + inside, value: 4 });
+            cases.push(TableCase::SetByte { offset: offset + inside, value: 4 });
         }
     }
-    cases.push(TableCase::SetByte { place: STORE_LENGTH - 1, value: 1 });
-    cases.push(TableCase::SetByte { place: STORE_LENGTH - 1, value: 0 });
+    cases.push(TableCase::SetByte { offset: STORE_LENGTH - 1, value: 1 });
+    cases.push(TableCase::SetByte { offset: STORE_LENGTH - 1, value: 0 });
     cases
 }
 
 /// "no two alike"
 fn bodies_made_alike() -> [TableCase; 1] {
     let [one, _] = two_bodies();
-    let place = SLOT_LENGTH + BODY_IN_SLOT + one.len() - 1;
-    [TableCase::SetByte { place, value: one[one.len() - 1] }]
+    let offset = SLOT_LENGTH + BODY_IN_SLOT + one.len() - 1;
+    [TableCase::SetByte { offset, value: one[one.len() - 1] }]
 }
 
-fn set(iomode: Iomode, place: usize, first: u64, last: u64, right: Right) -> TableCase {
-    TableCase::SetSegment { iomode, place, segment: Segment { first, last, right } }
+fn set(iomode: Iomode, index: usize, first: u64, last: u64, right: Right) -> TableCase {
+    TableCase::SetSegment { iomode, index, segment: Segment { first, last, right } }
 }
 
-/// One place of the table set. Some of these are sound.
-fn corrupt_places() -> Vec<TableCase> {
+/// One entry of the table set. Some of these are sound.
+fn corrupt_entries() -> Vec<TableCase> {
     let mut cases = Vec::new();
-    let rw = |place, first, last, right| set(Iomode::ReadWrite, place, first, last, right);
+    let rw = |index, first, last, right| set(Iomode::ReadWrite, index, first, last, right);
     for right in [Right::None, Right::Granted(0), Right::Recalled(0), Right::Granted(1)] {
-        // In the place of 10..19: as it was, shorter, over its neighbours, with
+        // In place of 10..19: as it was, shorter, over its neighbours, with
         // its ends changed about, and blank.
         for (first, last) in [(10, 19), (11, 18), (9, 19), (10, 20), (19, 10), (0, 0)] {
             cases.push(rw(1, first, last, right));
@@ -127,10 +127,10 @@ fn corrupt_places() -> Vec<TableCase> {
         for (first, last) in [(100, 199), (99, 150), (LAST_BYTE, LAST_BYTE), (0, LAST_BYTE)] {
             cases.push(rw(3, first, last, right));
         }
-        // Behind the last segment, with and without a blank place between.
-        for place in [4, 5, 31] {
-            cases.push(rw(place, 0, 0, right));
-            cases.push(rw(place, LAST_BYTE, LAST_BYTE, right));
+        // After the last segment, with and without a blank entry between.
+        for index in [4, 5, 31] {
+            cases.push(rw(index, 0, 0, right));
+            cases.push(rw(index, LAST_BYTE, LAST_BYTE, right));
         }
         cases.push(set(Iomode::Read, 1, 60, 60, right));
         cases.push(set(Iomode::Read, 0, 3, 2, right));
@@ -145,7 +145,7 @@ fn corrupt_places() -> Vec<TableCase> {
     cases
 }
 
-/// The two outer segments of RW have changed places.
+/// The two outer segments of RW are exchanged.
 fn segments_swapped() -> [TableCase; 2] {
     [set(Iomode::ReadWrite, 0, 200, LAST_BYTE, Right::Granted(1)), set(Iomode::ReadWrite, 3, 0, 9, Right::Granted(0))]
 }
@@ -154,11 +154,11 @@ fn segments_swapped() -> [TableCase; 2] {
 fn add_borrowed_again(cases: &mut CaseFileWriter) {
     add_sound_start(cases);
     cases.table(&TableCase::SetBorrowed(100));
-    cases.table(&TableCase::SetByte { place: 9_000, value: 7 });
+    cases.table(&TableCase::SetByte { offset: 9_000, value: 7 });
     cases.event(Event::Revoke);
     cases.table(&TableCase::SetBorrowed(STORE_LENGTH));
     cases.event(Event::Revoke);
-    cases.table(&TableCase::SetByte { place: 9_000, value: 0 });
+    cases.table(&TableCase::SetByte { offset: 9_000, value: 0 });
     cases.event(recall(3, 55, 55));
     cases.table(&TableCase::SetBorrowed(STORE_LENGTH - 1));
     add_each_call(cases);
@@ -167,14 +167,14 @@ fn add_borrowed_again(cases: &mut CaseFileWriter) {
     show(cases);
 }
 
-/// All 32 places set by hand: sound, then with the last two touching alike.
+/// All 32 entries set by hand: sound, then with the last two touching alike.
 fn add_full_by_hand(cases: &mut CaseFileWriter) {
     for last_first in [3_100, 3_050] {
         add_sound_start(cases);
         cases.event(layout_return(2, 200, LAST_BYTE));
-        for place in 0..31 {
-            let first = place as u64 * 100;
-            cases.table(&set(Iomode::ReadWrite, place, first, first + 49, Right::Granted(0)));
+        for index in 0..31 {
+            let first = index as u64 * 100;
+            cases.table(&set(Iomode::ReadWrite, index, first, first + 49, Right::Granted(0)));
         }
         cases.table(&set(Iomode::ReadWrite, 31, last_first, 3_149, Right::Granted(0)));
         cases.event(layout_return(2, 3_010, 3_020));

@@ -114,7 +114,7 @@ impl Reader<'_> {
         Json::List(members)
     }
 
-    /// A comma with something behind it, or the closing mark.
+    /// A comma with something after it, or the closing mark.
     fn separator(&mut self, closing: char) {
         if self.next_mark() != Some(closing) {
             self.expect(',');

@@ -14,7 +14,7 @@ pub struct SideBySide {
 }
 
 impl SideBySide {
-    /// Puts an event to both. Answers, places and bytes agree, and a refused
+    /// Puts an event to both. Answers, entries and bytes agree, and a refused
     /// event changes nothing. Gives the answer's number, 0 for accepted.
     pub fn apply(&mut self, event: &Event) -> u8 {
         let before = self.state.clone();
@@ -26,7 +26,7 @@ impl SideBySide {
         for iomode in Iomode::BOTH {
             let mut expected = self.model.segments(iomode);
             expected.resize(32, Segment::default());
-            assert_eq!(self.state.table.places(iomode)[..], expected, "places after {event:?}");
+            assert_eq!(self.state.table.entries(iomode)[..], expected, "places after {event:?}");
         }
         assert!(self.state.store == self.model.slots().laid_out(), "store after {event:?}");
         answer.map_or_else(|refusal| refusal.number(), |()| 0)

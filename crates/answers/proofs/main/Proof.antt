@@ -1,4 +1,4 @@
--- `answers::main` is safe and ends. The buffers keep their lengths. A record has at least one byte, so each step brings the place nearer to the bound.
+-- `answers::main` is safe and ends. The buffers keep their lengths. A case has at least one byte, so each step brings the offset nearer to the bound.
 use Prim.Native.Nat.{_-_}
 use borrow.Author.Needs.{needs}
 use lib.ListN.{length, length-take}
@@ -8,10 +8,10 @@ use Rattle.answers.proofs.main.Statement.{statement}
 use Rattle.answers.proofs.main.Tie as tie
 
 abbrev Inv-loop : tie.InvT-loop
-Inv-loop payload₀ store₀ state₀ place₀ payload store state offset = (length payload ≡ 16000) × (length store ≡ 32768)
+Inv-loop payload₀ store₀ state₀ offset₀ payload store state offset = (length payload ≡ 16000) × (length store ≡ 32768)
 
 abbrev μ-loop : tie.MeasureT-loop
-μ-loop payload₀ store₀ state₀ place₀ payload store state offset = 9223372036854775808 - offset
+μ-loop payload₀ store₀ state₀ offset₀ payload store state offset = 9223372036854775808 - offset
 
 start-requires : tie.Need-start-requires Inv-loop μ-loop
 start-requires c κs = search needs

@@ -66,7 +66,7 @@ stayed = (stay-slice (0 ∷ []) tt (plain (λ _. u8)), (stay-none-slice (1 ∷ [
 abbrev One : {M : Type 1} (𝓤 : URA M) (H : Heap 𝓤) (A : Atoms 𝓤) (mem : Memory → SProp 𝓤) (run : Routine → Fun 𝓤) → Contract 𝓤
 One 𝓤 H A mem run = tripleOf 𝓤 H A record-of.signature (record-of.spec 𝓤 H A mem run)
 
--- a entry's machine value
+-- an entry's machine value
 abbrev mach : ErrorEntry → List Val
 mach = LL.vals T.the-type T′.the-laws
 

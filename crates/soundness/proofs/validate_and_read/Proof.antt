@@ -21,8 +21,12 @@ unfolding sound namedIfSound
 returns c =
     let a = c .before .before .before .args in
     let s : sound (a .t) (now (a .store)) ≡ false = rw (ne-eqb _ _ (c .before .if1 .taken), and-false) in
-    let j = sym (if-unsound (a .t) (now (a .store)) (a .slot .0) s) in
-    (c .unsound .ensures .0 ∙ sym s, c .unsound .ensures .1 ∙ j, c .unsound .ensures .2 ∙ none-started _ j, c .unsound .ensures .3 ∙ sym (pick-false _ (namedSlots (a .t)) _ s))
+    let j = sym (if-unsound (a .t) (now (a .store)) (a .slot .0) s) in (
+      c .unsound .ensures .sound ∙ sym s,
+      c .unsound .ensures .answer ∙ j,
+      c .unsound .ensures .starts ∙ none-started _ j,
+      c .unsound .ensures .named ∙ sym (pick-false _ (namedSlots (a .t)) _ s),
+    )
 
 lists-sound-requires : tie.Need-lists-sound-requires
 lists-sound-requires c κs = search needs
@@ -35,8 +39,12 @@ unfolding sound namedIfSound
 returns-2 c =
     let a = c .before .before .before .before .before .args in
     let s : sound (a .t) (now (a .store)) ≡ false = rw (sym (c .before .before .lists-sound .ensures) ∙ not-true _ (c .before .if2 .taken)) in
-    let j = sym (if-unsound (a .t) (now (a .store)) (a .slot .0) s) in
-    (c .unsound2 .ensures .0 ∙ sym s, c .unsound2 .ensures .1 ∙ j, c .unsound2 .ensures .2 ∙ none-started _ j, c .unsound2 .ensures .3 ∙ sym (pick-false _ (namedSlots (a .t)) _ s))
+    let j = sym (if-unsound (a .t) (now (a .store)) (a .slot .0) s) in (
+      c .unsound2 .ensures .sound ∙ sym s,
+      c .unsound2 .ensures .answer ∙ j,
+      c .unsound2 .ensures .starts ∙ none-started _ j,
+      c .unsound2 .ensures .named ∙ sym (pick-false _ (namedSlots (a .t)) _ s),
+    )
 
 named-slots-requires : tie.Need-named-slots-requires
 named-slots-requires c κs = search needs
@@ -55,13 +63,13 @@ returns-3 c =
     let s : sound (a .t) (now (a .store)) ≡ false = rw (
       sym (after-if2 .before .lists-sound .ensures) ∙ not-false _ (after-if2 .if2 .left),
       sym (c .before .before .before .validate-slots .ensures (a .t)
-          (c .before .before .before .before .named-slots .ensures) .0) ∙ not-true _ (c .before .if3 .taken),
+          (c .before .before .before .before .named-slots .ensures) .sound) ∙ not-true _ (c .before .if3 .taken),
     ) in
     let j = sym (if-unsound (a .t) (now (a .store)) (a .slot .0) s) in (
-      c .unsound3 .ensures .0 ∙ sym s,
-      c .unsound3 .ensures .1 ∙ j,
-      c .unsound3 .ensures .2 ∙ none-started _ j,
-      c .unsound3 .ensures .3 ∙ sym (pick-false _ (namedSlots (a .t)) _ s),
+      c .unsound3 .ensures .sound ∙ sym s,
+      c .unsound3 .ensures .answer ∙ j,
+      c .unsound3 .ensures .starts ∙ none-started _ j,
+      c .unsound3 .ensures .named ∙ sym (pick-false _ (namedSlots (a .t)) _ s),
     )
 
 all-distinct-requires : tie.Need-all-distinct-requires
@@ -79,15 +87,15 @@ returns-4 c =
     let s : sound (a .t) (now (a .store)) ≡ false = rw (
       sym (after-if2 .before .lists-sound .ensures) ∙ not-false _ (after-if2 .if2 .left),
       sym (after-if3 .before .before .validate-slots .ensures (a .t)
-          (after-if3 .before .before .before .named-slots .ensures) .0) ∙ not-false _ (after-if3 .if3 .left),
+          (after-if3 .before .before .before .named-slots .ensures) .sound) ∙ not-false _ (after-if3 .if3 .left),
       sym (c .before .before .all-distinct .ensures (a .t) (after-if3 .before .before .before .named-slots .ensures))
           ∙ not-true _ (c .before .if4 .taken),
     ) in
     let j = sym (if-unsound (a .t) (now (a .store)) (a .slot .0) s) in (
-      c .unsound4 .ensures .0 ∙ sym s,
-      c .unsound4 .ensures .1 ∙ j,
-      c .unsound4 .ensures .2 ∙ none-started _ j,
-      c .unsound4 .ensures .3 ∙ sym (pick-false _ (namedSlots (a .t)) _ s),
+      c .unsound4 .ensures .sound ∙ sym s,
+      c .unsound4 .ensures .answer ∙ j,
+      c .unsound4 .ensures .starts ∙ none-started _ j,
+      c .unsound4 .ensures .named ∙ sym (pick-false _ (namedSlots (a .t)) _ s),
     )
 
 returns-5 : tie.Need-returns-5
@@ -97,16 +105,17 @@ returns-5 c =
     let after-if2 = after-validate-slots .before .before in
     let a = after-if2 .before .before .before .before .args in
     let k = not-false _ (c .before .before .if3 .left) in
+    let named = after-validate-slots .before .named-slots .ensures in
+    let v = after-validate-slots .validate-slots .ensures (a .t) named in
     let s : sound (a .t) (now (a .store)) ≡ true = rw (
       sym (after-if2 .before .lists-sound .ensures) ∙ not-false _ (after-if2 .if2 .left),
-      sym (after-validate-slots .validate-slots .ensures (a .t) (after-validate-slots .before .named-slots .ensures) .0) ∙ k,
-      sym (c .before .all-distinct .ensures (a .t) (after-validate-slots .before .named-slots .ensures))
-          ∙ not-false _ (c .if4 .left),
+      sym (v .sound) ∙ k,
+      sym (c .before .all-distinct .ensures (a .t) named) ∙ not-false _ (c .if4 .left),
       eq-eqb _ _ (after-if2 .before .before .if1 .left),
     ) in
     let j = sym (if-sound (a .t) (now (a .store)) (a .slot .0) s) in
-    let r = after-validate-slots .validate-slots .ensures (a .t) (after-validate-slots .before .named-slots .ensures) .1 k in
-    (k ∙ sym s, r .0 ∙ j, r .1 ∙ ap startsIn j, r .2 ∙ sym (pick-true _ (namedSlots (a .t)) _ s))
+    let r = v .reading k in
+    (k ∙ sym s, r .answer ∙ j, r .starts ∙ ap startsIn j, r .named ∙ sym (pick-true _ (namedSlots (a .t)) _ s))
 
 pub validate-and-read-spec : {M : Type 1} → statement M
 validate-and-read-spec =

@@ -1,4 +1,4 @@
--- `abi_wire::devices::version_records` meets its contract. The loop's invariant: the places made are those of the ones passed. The measure is how many are left.
+-- `abi_wire::devices::version_records` meets its contract. The loop's invariant: the entries made are those of the ones passed. The measure is how many are left.
 use Prim.Native.Nat.{_-_, _≤_}
 use Rattle.device.specs.Versions.{blankVersion}
 use Rattle.base.proofs.ListLaws.{map-all, map-next, mapped-long}

@@ -1,4 +1,4 @@
--- `answers::corrupt_case::count_of` is safe and ends. Each step leaves fewer of the 32 places.
+-- `answers::corrupt_case::count_of` is safe and ends. Each step leaves fewer of the 32 entries.
 use Prim.Native.Nat.{_-_}
 use borrow.Author.Needs.{needs}
 use Rattle.answers.proofs.corrupt_case.count_of.Statement.{statement}

@@ -1,4 +1,4 @@
--- `base::refusal::number` meets its contract: a fault has its number by `fault_number`, the others stand in the code.
+-- `base::refusal::number` meets its contract: a fault has its number by `fault_number`, the others are in the code.
 use Rattle.base.specs.Refusals.{numberOf}
 use borrow.Author.Needs.{needs}
 use mathlib.Core.Path.{sym, ap, _∙_}

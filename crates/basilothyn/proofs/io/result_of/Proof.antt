@@ -1,4 +1,4 @@
--- `basilothyn::io::result_of` meets its contract: the refusal, or the place with its iomode's number.
+-- `basilothyn::io::result_of` meets its contract: the refusal, or the piece with its iomode's number.
 use Rattle.basilothyn.specs.Calls.{locateResult}
 use borrow.Author.Needs.{needs}
 use Rattle.basilothyn.proofs.io.result_of.Statement.{statement}

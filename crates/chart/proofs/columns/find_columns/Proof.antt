@@ -1,4 +1,4 @@
--- `chart::columns::find_columns` is safe and ends. The array keeps its length, and each step leaves fewer places.
+-- `chart::columns::find_columns` is safe and ends. The array keeps its length, and each step leaves fewer entries.
 use Prim.Native.Nat.{_-_}
 use borrow.Author.Needs.{needs}
 use lib.ListN.{length}

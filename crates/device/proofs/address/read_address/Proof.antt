@@ -1,4 +1,4 @@
--- `device::address::read_address` meets its contract: the netid, the address, then the netid's class. `k1` and `k2` are the places after them.
+-- `device::address::read_address` meets its contract: the netid, the address, then the netid's class. `k1` and `k2` are what is known after them.
 use Prim.Native.Nat.{_+_, _-_}
 use Rattle.device.specs.Addresses.{addressAt}
 use Rattle.xdr.proofs.Accepted.{opaque-within}

@@ -1,4 +1,4 @@
--- `device::netid::class_of` meets its contract: the first string that is equal decides. `kI` is the place after the comparison with string I.
+-- `device::netid::class_of` meets its contract: the first string that is equal decides. `kI` is what is known after the comparison with string I.
 use Rattle.base.specs.Answer.{pick}
 use Rattle.device.specs.Netids.{classOf}
 use borrow.Author.Needs.{needs}

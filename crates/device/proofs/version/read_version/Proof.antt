@@ -1,4 +1,4 @@
--- `device::version::read_version` meets its contract: five fields one after the other, then the check. `kI` is the place after field I.
+-- `device::version::read_version` meets its contract: five fields one after the other, then the check. `kI` is what is known after field I.
 use Rattle.base.specs.Answer.{pick}
 use Rattle.device.specs.Versions.{checkedVersion, versionAt}
 use Rattle.xdr.proofs.Steps.{by-case, fault-up}

@@ -1,4 +1,4 @@
--- `drawing::columns::widest` is safe and ends. Each step leaves fewer places.
+-- `drawing::columns::widest` is safe and ends. Each step leaves fewer entries.
 use Prim.Native.Nat.{_-_}
 use borrow.Author.Needs.{needs}
 use Rattle.drawing.proofs.columns.widest.Statement.{statement}

@@ -1,4 +1,4 @@
--- `drawing::picture::print_layer` is safe and ends. Each step leaves fewer places.
+-- `drawing::picture::print_layer` is safe and ends. Each step leaves fewer entries.
 use Prim.Native.Nat.{_-_}
 use borrow.Author.Needs.{needs}
 use Rattle.drawing.proofs.picture.print_layer.Statement.{statement}

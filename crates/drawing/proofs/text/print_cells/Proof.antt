@@ -1,4 +1,4 @@
--- `drawing::text::print_cells` is safe and ends. Each step leaves fewer places.
+-- `drawing::text::print_cells` is safe and ends. Each step leaves fewer entries.
 use Prim.Native.Nat.{_-_}
 use borrow.Author.Needs.{needs}
 use Rattle.drawing.proofs.text.print_cells.Statement.{statement}

@@ -20,7 +20,9 @@ refused-requires : tie.Need-refused-requires
 refused-requires c κs = search needs
 
 returns : tie.Need-returns
-returns c = refused-whole _ _ _ _ (c .refused .ensures .0) (c .refused .ensures .1) (too-long (now (c .before .before .before .args .s)) (c .before .if1 .taken))
+returns c =
+    refused-whole _ _ _ _ (c .refused .ensures .answer) (c .refused .ensures .starts)
+    (too-long (now (c .before .before .before .args .s)) (c .before .if1 .taken))
 
 read-front-requires : tie.Need-read-front-requires
 read-front-requires c κs = search needs
@@ -41,7 +43,7 @@ returns-2 : tie.Need-returns-2
 unfolding layoutAt then
 returns-2 c =
     let after-if1 = c .before .before .before .before .before in
-    refused-whole _ _ _ _ (c .refused2 .ensures .0) (c .refused2 .ensures .1)
+    refused-whole _ _ _ _ (c .refused2 .ensures .answer) (c .refused2 .ensures .starts)
     (fault-met (now (after-if1 .before .before .args .s)) _ (after-if1 .if1 .left)
     (rw (fault-up parsedOfFront (c .before .before .before .before .read-front .ensures)
     (c .before .before .enum-told .given .1) (c .before .fault-of-front .ensures) refl)))
@@ -74,7 +76,7 @@ returns-3 c =
     (fault-up-from parsedOfEnd (λ (r : ReadEnd). parsedOfStarts r (after-read-mirrors .read-mirrors .last .1 .1 .1 .1 .0))
     (after-read-mirrors .read-mirrors .ensures) (c .before .before .enum-told2 .given .1) (c .before .fault-of-end .ensures)
     refl refl) in
-    refused-whole _ _ _ _ (c .refused3 .ensures .0) (c .refused3 .ensures .1)
+    refused-whole _ _ _ _ (c .refused3 .ensures .answer) (c .refused3 .ensures .starts)
     (fault-met (now (after-f .before .before .before .before .before .args .s)) _
     (after-f .before .before .before .if1 .left)
     (rw (by-case parsedOfFront (after-f .before .before .read-front .ensures) (after-f .f .given .1), m)))
@@ -103,7 +105,7 @@ returns-4 c =
     let m = mirrors-read-too 0 _ _ _ _
     (by-case (λ (r : ReadEnd). parsedOfStarts r (after-read-mirrors .read-mirrors .last .1 .1 .1 .1 .0))
     (after-read-mirrors .read-mirrors .ensures) (after-m .m .given .1)) in
-    refused-whole _ _ _ _ (c .refused4 .ensures .0) (c .refused4 .ensures .1)
+    refused-whole _ _ _ _ (c .refused4 .ensures .answer) (c .refused4 .ensures .starts)
     (fault-met (now (after-f .before .before .before .before .before .args .s)) _
     (after-f .before .before .before .if1 .left)
     (rw (
@@ -125,7 +127,7 @@ returns-5 c =
     let m = mirrors-read-too 0 _ _ _ _
     (by-case (λ (r : ReadEnd). parsedOfStarts r (after-read-mirrors .read-mirrors .last .1 .1 .1 .1 .0))
     (after-read-mirrors .read-mirrors .ensures) (after-t .before .before .before .before .m .given .1)) in
-    refused-whole _ _ _ _ (c .refused5 .ensures .0) (c .refused5 .ensures .1)
+    refused-whole _ _ _ _ (c .refused5 .ensures .answer) (c .refused5 .ensures .starts)
     (left-over (now (start .args .s)) _ _ (after-f .before .before .before .if1 .left)
     (layout-parts (now (start .args .s)) _ _ _ _ _ _
     (by-case parsedOfFront (after-f .before .before .read-front .ensures) (after-f .f .given .1)) (m .read)

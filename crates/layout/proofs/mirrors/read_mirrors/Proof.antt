@@ -1,4 +1,4 @@
--- `layout::mirrors::read_mirrors` meets its contract. The loop's invariant: the mirrors left, stored over the table now, are all behind the first
+-- `layout::mirrors::read_mirrors` meets its contract. The loop's invariant: the mirrors left, stored over the table now, are all after the first
 -- stored over the table as the loop begins.
 use Prim.Native.Nat.{ℕ, _+_, _-_, _*_, _≤_}
 use Rattle.layout.proofs.StartLaws.{mirrors-next, mirrors-none, mirrors-refused, row-read, row-refused}

@@ -1,5 +1,5 @@
 -- `layout::mirrors::read_servers` meets its contract. The loop's invariant: the servers left, stored over the table now, are all of them stored
--- over the table at the start; and the cursor is inside the bytes, so that a start fits its place.
+-- over the table at the start; and the cursor is inside the bytes, so that a start fits its entry.
 use Prim.Native.Nat.{_+_, _≤_}
 use Rattle.layout.proofs.StartLaws.{servers-next, servers-none, servers-refused}
 use Rattle.layout.specs.Starts.{withServers}

@@ -1,4 +1,4 @@
--- `layout::start::start_of` meets its contract: beyond the places, and at one.
+-- `layout::start::start_of` meets its contract: beyond the entries, and at one.
 use Rattle.layout.proofs.LayoutLaws.{no-start-of-mirror, no-start-of-stripe, start-at}
 use borrow.Author.Needs.{needs}
 use mathlib.Core.Path.{sym}

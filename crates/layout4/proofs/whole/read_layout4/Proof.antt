@@ -35,7 +35,7 @@ refused-requires c κs = search needs
 returns : tie.Need-returns
 returns c =
     let start = c .before .before .before .before .before .before in
-    refused-whole _ _ _ _ (c .refused .ensures .0) (c .refused .ensures .1)
+    refused-whole _ _ _ _ (c .refused .ensures .answer) (c .refused .ensures .starts)
     (frame-refused (now (start .args .s)) _
     (fault-up parsedOfFrame (c .before .before .before .before .read-frame .ensures)
     (c .before .before .enum-told .given .1) (c .before .fault-of-frame .ensures) refl))
@@ -49,7 +49,7 @@ refused-requires-2 c κs = search needs
 returns-2 : tie.Need-returns-2
 returns-2 c =
     let after-f = c .before .before .before .before in
-    refused-whole _ _ _ _ (c .refused2 .ensures .0) (c .refused2 .ensures .1)
+    refused-whole _ _ _ _ (c .refused2 .ensures .answer) (c .refused2 .ensures .starts)
     (body-short (now (after-f .before .before .before .before .args .s)) _ _
     (by-case parsedOfFrame (after-f .before .before .read-frame .ensures) (after-f .f .given .1))
     (sym (c .before .before .enough .ensures) ∙ not-true _ (c .before .if1 .taken)))
@@ -103,7 +103,7 @@ returns-3 c =
     let size = after-f .f .given .0 .0 .size in
     let e : after-f .f .given .0 .1 .0 .at + size - after-f .f .given .0 .1 .0 .at ≡ size = omega arith in
     let read = rw e at (c .before .before .before .before .read-layout .ensures .0) in
-    refused-whole _ _ _ _ (c .refused3 .ensures .0) (c .refused3 .ensures .1)
+    refused-whole _ _ _ _ (c .refused3 .ensures .answer) (c .refused3 .ensures .starts)
     (body-refused (now (after-f .before .before .before .before .args .s)) _ _
     (by-case parsedOfFrame (after-f .before .before .read-frame .ensures) (after-f .f .given .1))
     (sym (after-if1 .before .enough .ensures) ∙ not-false _ (after-if1 .if1 .left)) _
@@ -137,7 +137,7 @@ returns-4 c =
     let size = after-f .f .given .0 .0 .size in
     let e : after-f .f .given .0 .1 .0 .at + size - after-f .f .given .0 .1 .0 .at ≡ size = omega arith in
     let read = rw e at (after-a .before .before .read-layout .ensures .0) in
-    refused-whole _ _ _ _ (c .refused4 .ensures .0) (c .refused4 .ensures .1)
+    refused-whole _ _ _ _ (c .refused4 .ensures .answer) (c .refused4 .ensures .starts)
     (padding-refused (now (after-f .before .before .before .before .args .s)) _ _
     (by-case parsedOfFrame (after-f .before .before .read-frame .ensures) (after-f .f .given .1))
     (sym (after-if1 .before .enough .ensures) ∙ not-false _ (after-if1 .if1 .left)) _
@@ -158,7 +158,7 @@ returns-5 c =
     let size = after-f .f .given .0 .0 .size in
     let e : after-f .f .given .0 .1 .0 .at + size - after-f .f .given .0 .1 .0 .at ≡ size = omega arith in
     let read = rw e at (after-a .before .before .read-layout .ensures .0) in
-    refused-whole _ _ _ _ (c .refused5 .ensures .0) (c .refused5 .ensures .1)
+    refused-whole _ _ _ _ (c .refused5 .ensures .answer) (c .refused5 .ensures .starts)
     (left-over (now (after-f .before .before .before .before .args .s)) _ _
     (by-case parsedOfFrame (after-f .before .before .read-frame .ensures) (after-f .f .given .1))
     (sym (after-if1 .before .enough .ensures) ∙ not-false _ (after-if1 .if1 .left)) _

@@ -20,13 +20,19 @@ mark-slot-requires-2 : tie.Need-mark-slot-requires-2
 mark-slot-requires-2 c κs = search needs
 
 returns : tie.Need-returns
-returns c = (c .before .before .pre, λ i h. rw (c .enum-told .given .1) refl)
+returns c = record { size = c .before .before .pre; marks = λ i h. rw (c .enum-told .given .1) refl }
 
 returns-2 : tie.Need-returns-2
-returns-2 c = (c .mark-slot .ensures .0, λ i h. rw (c .before .before .before .right .given .1) (c .mark-slot .ensures .1 i h))
+returns-2 c = record {
+  size = c .mark-slot .ensures .size;
+  marks = λ i h. rw (c .before .before .before .right .given .1) (c .mark-slot .ensures .marks i h);
+}
 
 returns-3 : tie.Need-returns-3
-returns-3 c = (c .mark-slot2 .ensures .0, λ i h. rw (c .before .before .before .right2 .given .1) (c .mark-slot2 .ensures .1 i h))
+returns-3 c = record {
+  size = c .mark-slot2 .ensures .size;
+  marks = λ i h. rw (c .before .before .before .right2 .given .1) (c .mark-slot2 .ensures .marks i h);
+}
 
 pub mark-spec : {M : Type 1} → statement M
 mark-spec =

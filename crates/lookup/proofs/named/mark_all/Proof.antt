@@ -1,5 +1,5 @@
 -- `lookup::named::mark_all` meets its contract. The loop's invariant: the segments passed are marked, and those that are left finish the work. The
--- measure is how many places are left.
+-- measure is how many entries are left.
 use Prim.Native.Nat.{ℕ, _+_, _-_, _≤_, _<_, min}
 use Rattle.base.proofs.ListLaws.{mapped-long}
 use Rattle.lookup.proofs.LookupLaws.{length-used}
@@ -51,10 +51,10 @@ loop-again c =
     let h : length (g .items) ≡ 32 = search (needs, mapped-long) in
     let e : length (listOf g) ≡ min (g .count) 32 = length-used g h in (
       omega arith,
-      c .mark .ensures .0,
+      c .mark .ensures .size,
       λ i b. l .inv .2 i b
           ∙ (marked-next i g (l .k) blank (getD (l .named) i false) (omega arith)
-          ∙ ap (λ (x : Bool). anyNames i (drop (l .k + 1) (listOf g)) || x) (sym (c .mark .ensures .1 i b))),
+          ∙ ap (λ (x : Bool). anyNames i (drop (l .k + 1) (listOf g)) || x) (sym (c .mark .ensures .marks i b))),
     )
 
 returns : tie.Need-returns Inv-loop μ-loop
@@ -63,7 +63,10 @@ returns c =
     let g = c .before .before .before .args .t2 in
     let h : length (g .items) ≡ 32 = search (needs, mapped-long) in
     let e : length (listOf g) ≡ min (g .count) 32 = length-used g h in
-    (l .inv .1, λ i b. sym (l .inv .2 i b ∙ marked-all i g (l .k) (getD (l .named) i false) (omega arith)))
+    record {
+      size = l .inv .1;
+      marks = λ i b. sym (l .inv .2 i b ∙ marked-all i g (l .k) (getD (l .named) i false) (omega arith));
+    }
 
 pub mark-all-spec : {M : Type 1} → statement M
 mark-all-spec =

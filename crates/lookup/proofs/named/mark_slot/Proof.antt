@@ -19,13 +19,16 @@ returns : tie.Need-returns
 returns c =
     let b = c .before .before .before in
     let a = b .args in
-    (length-set (now (a .named)) (a .s .0) true ∙ b .pre, λ i h. marked (now (a .named)) (a .s .0) i (omega (arith, b .pre)))
+    record {
+      size = length-set (now (a .named)) (a .s .0) true ∙ b .pre;
+      marks = λ i h. marked (now (a .named)) (a .s .0) i (omega (arith, b .pre));
+    }
 
 returns-2 : tie.Need-returns-2
 returns-2 c =
     let b = c .before .before in
     let a = b .args in
-    (b .pre, λ i h. not-marked (now (a .named)) (a .s .0) i (omega arith) h)
+    record { size = b .pre; marks = λ i h. not-marked (now (a .named)) (a .s .0) i (omega arith) h }
 
 pub mark-slot-spec : {M : Type 1} → statement M
 mark-slot-spec = tie.close (tie.spec cast-i element-write-named returns returns-2)

@@ -16,8 +16,9 @@ mark-all-requires-2 c κs = search needs
 returns : tie.Need-returns
 returns c =
     let t = c .before .before .before .before .before .before .args .t in
-    all-named t _ (c .mark-all2 .ensures .0) (λ i h. c .mark-all2 .ensures .1 i h
-    ∙ (ap (λ (x : Bool). anyNames i (listIn t RW) || x) (c .before .before .before .mark-all .ensures .1 i h ∙ read-marked t i) ∙ rw-marked t i))
+    let read = c .before .before .before .mark-all .ensures in
+    all-named t _ (c .mark-all2 .ensures .size) (λ i h. c .mark-all2 .ensures .marks i h
+    ∙ (ap (λ (x : Bool). anyNames i (listIn t RW) || x) (read .marks i h ∙ read-marked t i) ∙ rw-marked t i))
 
 pub named-slots-spec : {M : Type 1} → statement M
 named-slots-spec = tie.close (tie.spec mark-all-requires mark-all-requires-2 returns)

@@ -1,5 +1,5 @@
 -- `lookup::range::any_meets` meets its contract. The loop's invariant: no segment passed counts, so what is left decides. The measure is how many
--- places are left.
+-- entries are left.
 use Prim.Native.Nat.{_-_, _≤_, min}
 use Rattle.base.proofs.ListLaws.{mapped-long}
 use Rattle.lookup.proofs.LookupLaws.{length-used, next-segment, no-segment}

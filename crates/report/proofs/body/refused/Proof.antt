@@ -1,4 +1,4 @@
--- `report::body::refused` meets its contract: the number, and blank places.
+-- `report::body::refused` meets its contract: the number, and blank entries.
 use Rattle.base.specs.Lists.{padded}
 use borrow.Author.Needs.{needs}
 use mathlib.Core.Path.{refl}

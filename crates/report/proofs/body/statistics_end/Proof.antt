@@ -1,4 +1,4 @@
--- `report::body::statistics_end` meets its contract: the place behind the count.
+-- `report::body::statistics_end` meets its contract: the offset after the count.
 use Rattle.xdr.proofs.Steps.{by-case, fault-up}
 use Rattle.xdr.specs.Answers.{parsedOfU32}
 use Rattle.xdr.specs.Parsed.{endOf, then}

@@ -55,9 +55,9 @@ loop-again c =
       omega arith,
       l .inv .1,
       l .inv .2,
-      omega (arith, l .inv .3, c .errors-of .ensures .1),
-      omega (arith, a, l .inv .4, c .errors-of .ensures .0),
-      rw (l .inv .5, next-head hs (l .i) (l .rest) h m, eq-eqb _ _ (c .errors-of .ensures .2)),
+      omega (arith, l .inv .3, c .errors-of .ensures .bound),
+      omega (arith, a, l .inv .4, c .errors-of .ensures .number),
+      rw (l .inv .5, next-head hs (l .i) (l .rest) h m, eq-eqb _ _ (c .errors-of .ensures .stateid)),
     )
 
 returns : tie.Need-returns Inv-loop μ-loop
@@ -66,7 +66,10 @@ returns c =
     let l = c .before .loop in
     let hs = c .before .before .args .t1 in
     let z : l .rest ≡ 0 = omega arith in
-    (omega (arith, l .inv .4, counts-none hs (l .i) (l .rest) z), rw (l .inv .5, z))
+    record {
+      sum = omega (arith, l .inv .4, counts-none hs (l .i) (l .rest) z);
+      stateids = rw (l .inv .5, z);
+    }
 
 pub total-spec : {M : Type 1} → statement M
 total-spec =

@@ -1,4 +1,4 @@
--- `report::head::stateid_at` meets its contract. The loop's invariant: the bytes passed stand in front, zeros behind them. The measure is how many
+-- `report::head::stateid_at` meets its contract. The loop's invariant: the bytes passed are in front, zeros after them. The measure is how many
 -- are left.
 use Prim.Native.Nat.{_+_, _-_, _≤_}
 use Rattle.base.proofs.ListLaws.{padded-next, padded-whole}

@@ -1,4 +1,4 @@
--- `report::put::put_errors` meets its contract: the entries' bytes are stored as they stand.
+-- `report::put::put_errors` meets its contract: the entries' bytes are stored as they are.
 use Prim.Native.Nat.{ℕ, _+_, _-_, _*_}
 use Rattle.report.proofs.StoringLaws.{errors-stored}
 use borrow.Author.Needs.{needs}

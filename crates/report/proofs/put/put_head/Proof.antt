@@ -1,4 +1,4 @@
--- `report::put::put_head` meets its contract: four parts, one behind the other.
+-- `report::put::put_head` meets its contract: four parts, one after the other.
 use Rattle.report.proofs.StoringLaws.{head-stored}
 use borrow.Author.Needs.{needs}
 use denote.Ref.{now}
@@ -41,15 +41,15 @@ returns c =
     .before .before .before .before .before .before .before .before .before in
     let e : length (start .args .head .stateid) ≡ 16 = search needs in
     let after-put-bytes = c .before .before .before .before .before .before in
-    let after-put-be82 = after-put-bytes .before .before .before .before .before in (
-      rw (
+    let after-put-be82 = after-put-bytes .before .before .before .before .before in record {
+      bytes = rw (
         c .before .before .put-be4 .ensures,
         after-put-bytes .put-bytes .ensures,
         after-put-be82 .put-be82 .ensures,
         after-put-be82 .before .before .before .before .put-be8 .ensures,
-      ) (head-stored (now (start .args .out)) (start .args .at) (start .args .head) e (omega arith)),
-      e,
-    )
+      ) (head-stored (now (start .args .out)) (start .args .at) (start .args .head) e (omega arith));
+      stateid = e;
+    }
 
 pub put-head-spec : {M : Type 1} → statement M
 put-head-spec =

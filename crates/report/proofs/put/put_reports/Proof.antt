@@ -108,11 +108,11 @@ loop-again c =
         l .inv .5,
         reports-next hs (l .i) (n - l .i) errors (l .from) h m,
         c .before .before .put-errors .ensures,
-        after-put-head .put-head .ensures .0,
+        after-put-head .put-head .ensures .bytes,
       )
           (report-stored (l .out) (l .p) (24 * head .errors) (headBytes head)
           (errorsBytes (entriesAt (head .errors) errors (l .from))) _
-          (length-head head (after-put-head .put-head .ensures .1))
+          (length-head head (after-put-head .put-head .ensures .stateid))
           (length-errors (head .errors) errors (l .from) (omega (arith, a, l .inv .3)))),
     )
 

@@ -25,7 +25,8 @@ returns-2 : tie.Need-returns-2
 returns-2 c =
     let a = c .before .before .before .before .before .before .args in
     written-refused (now (a .out)) _ 8
-    (list-refused (a .count) (a .heads) (a .list-length) (now (a .errors)) (now (a .tail)) (length (now (a .out))) (c .before .before .if1 .left) (λ e. c .if2 .taken (c .before .total .ensures .0 ∙ e)))
+    (list-refused (a .count) (a .heads) (a .list-length) (now (a .errors)) (now (a .tail))
+    (length (now (a .out))) (c .before .before .if1 .left) (λ e. c .if2 .taken (c .before .total .ensures .sum ∙ e)))
 
 check-reports-requires : tie.Need-check-reports-requires
 check-reports-requires c κs = search needs
@@ -43,7 +44,7 @@ returns-3 : tie.Need-returns-3
 returns-3 c =
     let after-if2 = c .before .before .before .before in
     let a = after-if2 .before .before .before .before .before .before .args in
-    let q = sym (sym (after-if2 .before .total .ensures .0) ∙ after-if2 .if2 .left) in
+    let q = sym (sym (after-if2 .before .total .ensures .sum) ∙ after-if2 .if2 .left) in
     let j = refusal-up answerOfCheck (c .before .before .before .check-reports .ensures) (c .before .enum-told2 .given .1)
     (c .fault-of-check .ensures) refl in
     written-refused (now (a .out)) _ (faultNumber (c .fault-of-check .result))
@@ -61,10 +62,11 @@ mul-before-2 c =
     let after-if2 = c .before .before .before in
     let start = after-if2 .before .before .before .before .before .before in
     let a = start .args in
-    let q = sym (sym (after-if2 .before .total .ensures .0) ∙ after-if2 .if2 .left) in
+    let total = after-if2 .before .total .ensures in
+    let q = sym (sym (total .sum) ∙ after-if2 .if2 .left) in
     let j = by-case answerOfCheck (c .before .before .check-reports .ensures) (c .enum-told .given .1) in
     let z = sizes (a .count) (a .heads) (a .list-length) (now (a .errors)) (now (a .tail))
-    (after-if2 .before .before .if1 .left) (start .good .1 .0 .1 .0 .1) q (after-if2 .before .total .ensures .1) j in
+    (after-if2 .before .before .if1 .left) (start .good .1 .0 .1 .0 .1) q (total .stateids) j in
     omega (arith, z .few)
 
 add-before-2 : tie.Need-add-before-2
@@ -72,10 +74,11 @@ add-before-2 c =
     let after-total = c .before .before .before .before in
     let start = after-total .before .before .before .before .before in
     let a = start .args in
-    let q = sym (sym (after-total .total .ensures .0) ∙ c .before .before .before .if2 .left) in
+    let total = after-total .total .ensures in
+    let q = sym (sym (total .sum) ∙ c .before .before .before .if2 .left) in
     let j = by-case answerOfCheck (c .before .before .check-reports .ensures) (c .enum-told .given .1) in
     let z = sizes (a .count) (a .heads) (a .list-length) (now (a .errors)) (now (a .tail))
-    (after-total .before .if1 .left) (start .good .1 .0 .1 .0 .1) q (after-total .total .ensures .1) j in
+    (after-total .before .if1 .left) (start .good .1 .0 .1 .0 .1) q (total .stateids) j in
     omega (arith, z .few, after-total .before .if1 .left)
 
 add-size : tie.Need-add-size
@@ -83,10 +86,11 @@ add-size c =
     let after-total = c .before .before .before .before in
     let start = after-total .before .before .before .before .before in
     let a = start .args in
-    let q = sym (sym (after-total .total .ensures .0) ∙ c .before .before .before .if2 .left) in
+    let total = after-total .total .ensures in
+    let q = sym (sym (total .sum) ∙ c .before .before .before .if2 .left) in
     let j = by-case answerOfCheck (c .before .before .check-reports .ensures) (c .enum-told .given .1) in
     let z = sizes (a .count) (a .heads) (a .list-length) (now (a .errors)) (now (a .tail))
-    (after-total .before .if1 .left) (start .good .1 .0 .1 .0 .1) q (after-total .total .ensures .1) j in
+    (after-total .before .if1 .left) (start .good .1 .0 .1 .0 .1) q (total .stateids) j in
     omega (arith, z .few, after-total .before .if1 .left, start .good .1 .1 .1 .1 .0 .1)
 
 returns-4 : tie.Need-returns-4
@@ -94,10 +98,11 @@ returns-4 c =
     let after-if2 = c .before .before .before .before in
     let start = after-if2 .before .before .before .before .before .before in
     let a = start .args in
-    let q = sym (sym (after-if2 .before .total .ensures .0) ∙ after-if2 .if2 .left) in
+    let total = after-if2 .before .total .ensures in
+    let q = sym (sym (total .sum) ∙ after-if2 .if2 .left) in
     let j = by-case answerOfCheck (c .before .before .before .check-reports .ensures) (c .before .enum-told .given .1) in
     let z = sizes (a .count) (a .heads) (a .list-length) (now (a .errors)) (now (a .tail))
-    (after-if2 .before .before .if1 .left) (start .good .1 .0 .1 .0 .1) q (after-if2 .before .total .ensures .1) j in
+    (after-if2 .before .before .if1 .left) (start .good .1 .0 .1 .0 .1) q (total .stateids) j in
     let l = now (a .out) in
     let hs = take (a .count) (a .heads) in
     let es = entriesAt (counts hs) (now (a .errors)) 0 in
@@ -116,11 +121,12 @@ put-reports-requires c κs =
     let after-if2 = after-if3 .before .before .before .before in
     let start = after-if2 .before .before .before .before .before .before in
     let a = start .args in
-    let q = sym (sym (after-if2 .before .total .ensures .0) ∙ after-if2 .if2 .left) in
+    let total = after-if2 .before .total .ensures in
+    let q = sym (sym (total .sum) ∙ after-if2 .if2 .left) in
     let j =
     by-case answerOfCheck (after-if3 .before .before .before .check-reports .ensures) (after-if3 .before .enum-told .given .1) in
     let z = sizes (a .count) (a .heads) (a .list-length) (now (a .errors)) (now (a .tail))
-    (after-if2 .before .before .if1 .left) (start .good .1 .0 .1 .0 .1) q (after-if2 .before .total .ensures .1) j in (
+    (after-if2 .before .before .if1 .left) (start .good .1 .0 .1 .0 .1) q (total .stateids) j in (
       after-if2 .before .before .if1 .left,
       omega (arith, c .before .before .before .put-be4 .kept .0, z .few, z .body, q, after-if3 .if3 .left),
       z .inside,
@@ -139,11 +145,12 @@ returns-5 c =
     let after-if2 = after-if3 .before .before .before .before in
     let start = after-if2 .before .before .before .before .before .before in
     let a = start .args in
-    let q = sym (sym (after-if2 .before .total .ensures .0) ∙ after-if2 .if2 .left) in
+    let total = after-if2 .before .total .ensures in
+    let q = sym (sym (total .sum) ∙ after-if2 .if2 .left) in
     let j =
     by-case answerOfCheck (after-if3 .before .before .before .check-reports .ensures) (after-if3 .before .enum-told .given .1) in
     let z = sizes (a .count) (a .heads) (a .list-length) (now (a .errors)) (now (a .tail))
-    (after-if2 .before .before .if1 .left) (start .good .1 .0 .1 .0 .1) q (after-if2 .before .total .ensures .1) j in
+    (after-if2 .before .before .if1 .left) (start .good .1 .0 .1 .0 .1) q (total .stateids) j in
     let l = now (a .out) in
     let hs = take (a .count) (a .heads) in
     let es = entriesAt (counts hs) (now (a .errors)) 0 in

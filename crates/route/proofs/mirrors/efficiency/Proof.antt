@@ -1,4 +1,4 @@
--- `route::mirrors::efficiency` meets its contract: the number behind the start that `start_of` gives.
+-- `route::mirrors::efficiency` meets its contract: the number after the start that `start_of` gives.
 use Prim.Native.Nat.{ℕ, _+_}
 use Rattle.bytes.specs.Numbers.{beAt}
 use Rattle.route.specs.Mirrors.{efficiencyOf}

@@ -1,5 +1,5 @@
 -- `route::rights::grant_in` meets its contract. The loop's invariant: no segment passed holds the byte, so what is left decides. The measure is how
--- many places are left.
+-- many entries are left.
 use Prim.Native.Nat.{_-_, _≤_, min}
 use Rattle.base.proofs.AnswerLaws.{pick-false, pick-true}
 use Rattle.base.specs.Limits.{mostSegments}

@@ -39,7 +39,7 @@ loop-holds c = (
   omega arith,
   λ t e.
       let n = read-none t (now (c .before .before .before .args .store)) (c .before .before .before .args .asked .0) in
-      (refl, c .before .unsound .ensures .1 ∙ n, c .before .unsound .ensures .2 ∙ none-started _ n),
+      (refl, c .before .unsound .ensures .answer ∙ n, c .before .unsound .ensures .starts ∙ none-started _ n),
 )
 
 cast-k : tie.Need-cast-k Inv-loop μ-loop
@@ -66,16 +66,16 @@ returns c =
     let at-loop = after-if1 .before .before .before in
     let start = at-loop .before .before .before .before in
     let l = at-loop .loop in
-    let f = at-loop .before .before .unsound .ensures .0 in
+    let f = at-loop .before .before .unsound .ensures .sound in
     let q = c .before .is-filled .ensures (c .before .before .read-layout .result .starts)
     (c .before .before .read-layout .ensures .0 ∙ ap layoutBody (c .before .before .before .slot-body .ensures)) in
     λ t e. let s : slotSound (isNamed t (l .i)) (slotAt (now (start .args .store)) (l .i)) ≡ false = rw (
       named-here t _ (l .i) e (omega arith) ∙ after-if1 .if1 .taken,
       ← (after-if1 .before .slot-bytes .ensures),
-    ) (sym q ∙ not-true _ (c .if2 .taken)) in (
-      f ∙ sym (l .inv .1 t e .0 ∙ slot-fails t (now (start .args .store)) 8 (l .i) (omega arith) s),
-      λ k. absurd (false≢true (sym f ∙ k)),
-    )
+    ) (sym q ∙ not-true _ (c .if2 .taken)) in record {
+      sound = f ∙ sym (l .inv .1 t e .0 ∙ slot-fails t (now (start .args .store)) 8 (l .i) (omega arith) s);
+      reading = λ k. absurd (false≢true (sym f ∙ k));
+    }
 
 all-zero-requires : tie.Need-all-zero-requires Inv-loop μ-loop
 all-zero-requires c κs = search needs
@@ -86,14 +86,14 @@ returns-2 c =
     let at-loop = c .before .before .before .before .before in
     let start = at-loop .before .before .before .before in
     let l = at-loop .loop in
-    let f = at-loop .before .before .unsound .ensures .0 in
+    let f = at-loop .before .before .unsound .ensures .sound in
     λ t e. let s : slotSound (isNamed t (l .i)) (slotAt (now (start .args .store)) (l .i)) ≡ false = rw (
       named-here t _ (l .i) e (omega arith) ∙ c .before .before .if1 .left,
       ← (c .before .before .before .slot-bytes .ensures),
-    ) (sym (c .before .all-zero .ensures) ∙ not-true _ (c .if4 .taken)) in (
-      f ∙ sym (l .inv .1 t e .0 ∙ slot-fails t (now (start .args .store)) 8 (l .i) (omega arith) s),
-      λ k. absurd (false≢true (sym f ∙ k)),
-    )
+    ) (sym (c .before .all-zero .ensures) ∙ not-true _ (c .if4 .taken)) in record {
+      sound = f ∙ sym (l .inv .1 t e .0 ∙ slot-fails t (now (start .args .store)) 8 (l .i) (omega arith) s);
+      reading = λ k. absurd (false≢true (sym f ∙ k));
+    }
 
 add-i : tie.Need-add-i Inv-loop μ-loop
 add-i c = omega arith
@@ -149,7 +149,10 @@ returns-3 c =
     let a = c .before .before .before .before .before .args in
     λ t e.
     let r = ap (layoutNamed t (now (a .store)) (a .asked .0)) z in
-    (sym (l .inv .1 t e .0 ∙ slots-none t (now (a .store)) 8 (l .i) (omega arith)), λ k. (l .inv .1 t e .1 ∙ r, l .inv .1 t e .2 ∙ ap startsIn r, e))
+    record {
+      sound = sym (l .inv .1 t e .0 ∙ slots-none t (now (a .store)) 8 (l .i) (omega arith));
+      reading = λ k. record { answer = l .inv .1 t e .1 ∙ r; starts = l .inv .1 t e .2 ∙ ap startsIn r; named = e };
+    }
 
 pub validate-slots-spec : {M : Type 1} → statement M
 validate-slots-spec =

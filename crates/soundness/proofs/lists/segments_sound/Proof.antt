@@ -1,5 +1,5 @@
 -- `soundness::lists::segments_sound` meets its contract. The first loop's invariant: the segments passed are in order, so what is left decides. The
--- second one's: the flag says whether the places passed are blank. The measures are how many are left.
+-- second one's: the flag says whether the entries passed are blank. The measures are how many are left.
 use Prim.Native.Nat.{_+_, _-_, _≤_, min}
 use Rattle.base.proofs.ListLaws.{mapped-long}
 use Rattle.lookup.proofs.LookupLaws.{length-used, next-segment, no-segment}

@@ -1,4 +1,4 @@
--- `store::lay::lay_body` meets its contract: length, kind, body and zeros one behind the other are the slot.
+-- `store::lay::lay_body` meets its contract: length, kind, body and zeros one after the other are the slot.
 use Rattle.store.proofs.LayLaws.{laid, no-slot, too-long}
 use Rattle.store.proofs.SlotLaws.{length-slot}
 use Rattle.store.specs.Store.{holds}

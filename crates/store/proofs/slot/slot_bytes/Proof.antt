@@ -10,11 +10,11 @@ use Rattle.store.proofs.slot.slot_bytes.Tie as tie
 start-requires : tie.Need-start-requires
 start-requires c κs = search needs
 
-part-requires : tie.Need-part-requires
-part-requires c κs = search needs
+bytes-from-requires : tie.Need-bytes-from-requires
+bytes-from-requires c κs = search needs
 
 returns : tie.Need-returns
-returns c = c .part .ensures ∙ ap (λ (p : ℕ). bytesFrom 4096 (now (c .before .before .before .args .store)) p) (c .before .start .ensures)
+returns c = c .bytes-from .ensures ∙ ap (λ (p : ℕ). bytesFrom 4096 (now (c .before .before .before .args .store)) p) (c .before .start .ensures)
 
 pub slot-bytes-spec : {M : Type 1} → statement M
-slot-bytes-spec = tie.close (tie.spec start-requires part-requires returns)
+slot-bytes-spec = tie.close (tie.spec start-requires bytes-from-requires returns)

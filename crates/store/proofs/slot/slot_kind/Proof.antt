@@ -1,4 +1,4 @@
--- `store::slot::slot_kind` meets its contract: the two bytes behind the length.
+-- `store::slot::slot_kind` meets its contract: the two bytes after the length.
 use Rattle.store.specs.Store.{kindIn}
 use borrow.Author.Needs.{needs}
 use Rattle.store.proofs.slot.slot_kind.Statement.{statement}

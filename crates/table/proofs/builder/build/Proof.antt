@@ -30,24 +30,26 @@ unfolding pushAll
 loop-holds c = (omega arith, rw (steps-none (c .before .before .args .c) (c .before .before .args .first) (c .before .before .args .last) (c .before .before .args .t1) (c .before .before .args .n) (c .before .middle-steps .result)) (c .empty-builder .ensures))
 
 add-loop : tie.Need-add-loop Inv-loop μ-loop
-add-loop c = let q = c .before .before .middle-steps .ensures .1 in omega arith
+add-loop c = let q = c .before .before .middle-steps .ensures .bound in omega arith
 
 add-loop-2 : tie.Need-add-loop-2 Inv-loop μ-loop
-add-loop-2 c = let q = c .before .before .middle-steps .ensures .1 in omega arith
+add-loop-2 c = let q = c .before .before .middle-steps .ensures .bound in omega arith
 
 step-index-requires : tie.Need-step-index-requires Inv-loop μ-loop
-step-index-requires c κs = (c .before .before .before .before .pre, c .before .before .before .middle-steps .ensures .1, c .loop-test .taken)
+step-index-requires c κs =
+    let after-middle-steps = c .before .before .before in
+    (after-middle-steps .before .pre, after-middle-steps .middle-steps .ensures .bound, c .loop-test .taken)
 
 mul-s : tie.Need-mul-s Inv-loop μ-loop
-mul-s c = let q = c .step-index .ensures .1 in omega arith
+mul-s c = let q = c .step-index .ensures .bound in omega arith
 
 array-copy-out-s : tie.Need-array-copy-out-s Inv-loop μ-loop
-array-copy-out-s c = let q = c .step-index .ensures .1 in omega arith
+array-copy-out-s c = let q = c .step-index .ensures .bound in omega arith
 
 step-fragment-requires : tie.Need-step-fragment-requires Inv-loop μ-loop
 step-fragment-requires c κs =
     let after-middle-steps = c .before .before .before .before .before in
-    (after-middle-steps .before .pre, after-middle-steps .middle-steps .ensures .1)
+    (after-middle-steps .before .pre, after-middle-steps .middle-steps .ensures .bound)
 
 newest-requires : tie.Need-newest-requires Inv-loop μ-loop
 newest-requires c κs = search needs
@@ -70,10 +72,16 @@ element-set-from-t : tie.Need-element-set-from-t Inv-loop μ-loop
 element-set-from-t c = let h = c .before .placement-for .ensures .there in omega arith
 
 add-i : tie.Need-add-i Inv-loop μ-loop
-add-i c = let q = c .before .before .before .before .before .before .before .before .before .before .middle-steps .ensures .1 in omega arith
+add-i c =
+    let after-middle-steps = c .before .before .before .before .before .before .before .before .before .before in
+    let q = after-middle-steps .middle-steps .ensures .bound in
+    omega arith
 
 loop-less : tie.Need-loop-less Inv-loop μ-loop
-loop-less c = let q = c .before .before .before .before .before .before .before .before .before .before .middle-steps .ensures .1 in omega arith
+loop-less c =
+    let after-middle-steps = c .before .before .before .before .before .before .before .before .before .before in
+    let q = after-middle-steps .middle-steps .ensures .bound in
+    omega arith
 
 loop-again : tie.Need-loop-again Inv-loop μ-loop
 loop-again c =
@@ -86,16 +94,19 @@ loop-again c =
       step-written (at-loop .loop .r) (c .before .placement-for .result) _ (after-newest .newest .result) _ _ _ _
           (after-newest .newest .ensures) (c .before .placement-for .ensures) (after-newest .before .step-fragment .ensures)
           (steps-next (a .c) (a .first) (a .last) (a .t1) (a .n) (at-loop .before .before .middle-steps .result)
-          (at-loop .loop .i) _ _ k (start .pre) (at-loop .before .before .middle-steps .ensures .1)
+          (at-loop .loop .i) _ _ k (start .pre) (at-loop .before .before .middle-steps .ensures .bound)
           (after-newest .before .before .before .before .loop-test .taken)
-          (after-newest .before .before .before .step-index .ensures .0)) (at-loop .loop .inv .1),
+          (after-newest .before .before .before .step-index .ensures .index)) (at-loop .loop .inv .1),
     )
 
 returns : tie.Need-returns Inv-loop μ-loop
 returns c =
     let a = c .before .before .before .before .args in
+    let m = c .before .before .before .middle-steps in
+    let l = c .before .loop in
     let k : length (a .t1) ≡ 32 = search (needs, mapped-long) in
-    rw (← (steps-end (a .c) (a .first) (a .last) (a .t1) (a .n) (c .before .before .before .middle-steps .result) (c .before .loop .i) k (c .before .before .before .middle-steps .ensures .0) (omega arith))) (c .before .loop .inv .1)
+    let e = m .ensures .number in
+    rw (← (steps-end (a .c) (a .first) (a .last) (a .t1) (a .n) (m .result) (l .i) k e (omega arith))) (l .inv .1)
 
 pub build-spec : {M : Type 1} → statement M
 build-spec =

@@ -1,4 +1,4 @@
--- `table::builder::empty_builder` meets its contract: it is not full, and has the places and number of no segments.
+-- `table::builder::empty_builder` meets its contract: it is not full, and has the entries and number of no segments.
 use Rattle.base.specs.Lists.{padded}
 use Rattle.table.proofs.BuilderLaws.{never-both}
 use mathlib.Core.Path.{refl}

@@ -1,4 +1,4 @@
--- `table_cases::table_case::print_segments` is safe and ends. Each step leaves fewer of the 32 places.
+-- `table_cases::table_case::print_segments` is safe and ends. Each step leaves fewer of the 32 entries.
 use Prim.Native.Nat.{_-_}
 use borrow.Author.Needs.{needs}
 use Rattle.table_cases.proofs.table_case.print_segments.Statement.{statement}

@@ -1,4 +1,4 @@
--- `wire_cases::device_case::print_versions` is safe and ends. Each step leaves fewer of the eight places.
+-- `wire_cases::device_case::print_versions` is safe and ends. Each step leaves fewer of the eight entries.
 use Prim.Native.Nat.{_-_}
 use borrow.Author.Needs.{needs}
 use Rattle.wire_cases.proofs.device_case.print_versions.Statement.{statement}

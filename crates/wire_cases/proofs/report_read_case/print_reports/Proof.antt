@@ -1,4 +1,4 @@
--- `wire_cases::report_read_case::print_reports` is safe and ends. Each step leaves fewer of the eight places.
+-- `wire_cases::report_read_case::print_reports` is safe and ends. Each step leaves fewer of the eight entries.
 use Prim.Native.Nat.{_-_}
 use borrow.Author.Needs.{needs}
 use Rattle.wire_cases.proofs.report_read_case.print_reports.Statement.{statement}

@@ -1,4 +1,4 @@
--- `store::slot::part` meets its contract: the bytes wanted, cut off where the slice ends.
+-- `store::slot::bytes_from` meets its contract: the bytes wanted, cut off where the slice ends.
 use Prim.Native.Nat.{_+_, _-_}
 use Rattle.bytes.proofs.NumberLaws.{fewer-left, none-left}
 use borrow.Author.Needs.{needs}
@@ -6,8 +6,8 @@ use denote.Ref.{now}
 use lib.ListN.{length}
 use mathlib.Core.Path.{_≡_, sym, _∙_}
 use native.Mathlib.Omega.{arith}
-use Rattle.store.proofs.slot.part.Statement.{statement}
-use Rattle.store.proofs.slot.part.Tie as tie
+use Rattle.store.proofs.slot.bytes_from.Statement.{statement}
+use Rattle.store.proofs.slot.bytes_from.Tie as tie
 
 sub-result : tie.Need-sub-result
 sub-result c = search needs
@@ -53,8 +53,8 @@ returns-3 c =
     let e : a .at + a .n - a .at ≡ a .n = omega arith in
     rw e
 
-pub part-spec : {M : Type 1} → statement M
-part-spec =
+pub bytes-from-spec : {M : Type 1} → statement M
+bytes-from-spec =
     tie.close
     (tie.spec
     sub-result
