@@ -206,10 +206,10 @@ struct basilothyn_event_result basilothyn_return(struct basilothyn_table table, 
                                                  uint64_t offset, uint64_t length, uint32_t iomode);
 
 /* A recall: what is granted in the range and iomode becomes recalled; from now on that iomode serves no I/O there.
- * The other still may: after a recall of READ a write, and a read under a body without flag 4, go through RW where
- * that is granted; after a recall of RW a read goes through READ. A recall of a file system or of all layouts is
- * one of each of its files, whole. Refusals in order: 20, 5, 3, 25, 23. What to answer the server: on 5
- * NFS4ERR_INVAL, on 3 NFS4ERR_BADIOMODE, on 25 NFS4ERR_NOMATCHING_LAYOUT, on 23 and 20 NFS4ERR_DELAY. */
+ * The other still may: where RW serves, a recall of READ changes no answer, and after a recall of RW a read goes
+ * through READ where that is granted. A recall of a file system or of all layouts is one of each of its files, whole.
+ * Refusals in order: 20, 5, 3, 25, 23. What to answer the server: on 5 NFS4ERR_INVAL, on 3 NFS4ERR_BADIOMODE, on 25
+ * NFS4ERR_NOMATCHING_LAYOUT, on 23 and 20 NFS4ERR_DELAY. */
 struct basilothyn_event_result basilothyn_recall(struct basilothyn_table table, uint8_t *store, size_t store_length,
                                                  uint64_t offset, uint64_t length, uint32_t iomode);
 
@@ -232,9 +232,9 @@ struct basilothyn_locate_result {
 };
 
 /* Where a read goes: to one mirror, the one whose first data server has the highest efficiency, the lowest number on
- * a tie. It is served by READ, or where that is not granted by RW under a body without flag 4. Where that data server
- * is down, the one with the same stripe number in any other mirror of the body may serve. Refusals in order: 20, 5,
- * 17. Ask again after the piece for the rest. */
+ * a tie. It is served by RW under a body without flag 4, else by READ. Where that data server is down, the one with
+ * the same stripe number in any other mirror of the body may serve. Refusals in order: 20, 5, 17. Ask again after
+ * the piece for the rest. */
 struct basilothyn_locate_result basilothyn_locate_read(struct basilothyn_table table, const uint8_t *store,
                                                        size_t store_length, uint64_t offset, uint64_t length);
 

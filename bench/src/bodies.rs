@@ -19,8 +19,8 @@ pub fn three_mirrors() -> &'static [u8] {
 }
 
 /// So many mirrors and servers, 80 bytes each, as in the captures; bodies with different hints differ in their last four bytes only.
-pub fn striped(mirrors: usize, servers: usize, hint: u32) -> Vec<u8> {
+pub fn striped(mirrors: usize, servers: usize, flags: u32, hint: u32) -> Vec<u8> {
     let server = |m: usize, s: usize| ServerPlan::sized((m * servers + s) as u8, &[20], 1, 1);
     let mirrors = (0..mirrors).map(|m| (0..servers).map(|s| server(m, s)).collect()).collect();
-    LayoutPlan { unit: 65_536, mirrors, flags: 0, hint }.encode().bytes
+    LayoutPlan { unit: 65_536, mirrors, flags, hint }.encode().bytes
 }

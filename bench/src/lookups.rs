@@ -10,10 +10,35 @@ use independent::io_request::{Direction, IoRequest};
 use independent::locate::locate;
 use std::hint::black_box;
 
+type Holding = fn(u64, u64) -> Held;
+
+/// What is held besides RW alone, the iomode that a read then uses, and the rows' words for it.
+const READ_BESIDE_RW: [(Holding, u32, &str); 3] = [
+    (Held::in_read, 1, "READ alone"),
+    (|segments, slots| Held::in_both(segments, slots, 0), 2, "both iomodes serve"),
+    (|segments, slots| Held::in_both(segments, slots, 4), 1, "RW with flag 4 beside READ"),
+];
+
 /// Of a segment's bytes; on an empty table both are refused with 17.
 pub fn rows(held: &Held) -> Vec<Row> {
-    let offset = 2 * (held.segments / 2) * STEP;
-    vec![write(held, offset), read(held, offset)]
+    let offset = middle(held);
+    vec![write(held, offset), read(held, offset, &name("read", held))]
+}
+
+/// Reads of bytes that are granted in READ, or in both iomodes.
+pub fn rows_with_read(segments: u64, slots: u64) -> Vec<Row> {
+    let row = |(holding, iomode, rights): (Holding, u32, &str)| {
+        let held = holding(segments, slots);
+        let offset = middle(&held);
+        assert_eq!(raw::locate_read(held.core, &held.store, offset, STEP).iomode, iomode, "{rights}");
+        read(&held, offset, &format!("locate for a read, {rights}, {}", held.name()))
+    };
+    READ_BESIDE_RW.map(row).into()
+}
+
+/// The first byte of a segment in the middle of the list.
+fn middle(held: &Held) -> u64 {
+    2 * (held.segments / 2) * STEP
 }
 
 fn name(direction: &str, held: &Held) -> String {
@@ -33,13 +58,13 @@ fn write(held: &Held, offset: u64) -> Row {
         .run()
 }
 
-fn read(held: &Held, offset: u64) -> Row {
+fn read(held: &Held, offset: u64, name: &str) -> Row {
     let request = IoRequest::read(offset, STEP);
     let found = raw::locate_read(held.core, &held.store, offset, STEP);
     assert_eq!(found, by_value::locate_read(held.core, &held.store, offset, STEP));
     check(held, &request, found, locate_read(&held.tuned, &held.store, offset, STEP));
     let core = || raw::locate_read(*black_box(&held.core), black_box(&held.store), offset, STEP);
-    Race::new(&name("read", held), core, || locate(black_box(&held.plain), black_box(&held.store), &request))
+    Race::new(name, core, || locate(black_box(&held.plain), black_box(&held.store), &request))
         .tuned(|| locate_read(black_box(&held.tuned), black_box(&held.store), offset, STEP))
         .by_value(|| by_value::locate_read(*black_box(&held.core), black_box(&held.store), offset, STEP))
         .run()

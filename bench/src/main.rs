@@ -42,6 +42,9 @@ fn main() -> ExitCode {
         tables.extend(events::rows(&held));
         tables.extend(lookups::rows(&held));
     }
+    for slots in [1, 8] {
+        tables.extend(lookups::rows_with_read(8, slots));
+    }
     println!("\n{forms}");
     targets::print(&layouts, &scan, &tables);
     ExitCode::SUCCESS
@@ -61,7 +64,8 @@ fn print_what_is_measured() {
 Layout bodies of 104 and 344 bytes are captured, that of 1,952 bytes has 3 mirrors of 8 servers; the report body has 8 reports of 16 errors. The scan is the
 time of a lookup on an empty table with a store whose last byte is 1, less that of one whose first byte is 1: the first is refused after its last block of
 256 bytes, the second after its first; against it stand `iter().all`, as in the plain Rust, and the fastest of four forms, on as many bytes. Slots are filled by bodies of 3,872 bytes that differ in their
-last bytes. After a grant of a new body and after a revoke all rivals copy the slots that it changed back.
+last bytes. After a grant of a new body and after a revoke all rivals copy the slots that it changed back. Where segments are held in each iomode, READ has
+the same bytes as RW, and with eight slots another body there.
 ",
         rpcgen_line()
     );

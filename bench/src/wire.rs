@@ -13,7 +13,7 @@ use std::hint::black_box;
 
 /// The lengths and rows of the three layout bodies.
 pub fn layouts() -> Vec<(usize, Row)> {
-    [one_mirror(), three_mirrors(), &striped(3, 8, 0)].map(|body| (body.len(), layout(body))).into()
+    [one_mirror(), three_mirrors(), &striped(3, 8, 0, 0)].map(|body| (body.len(), layout(body))).into()
 }
 
 fn layout(body: &[u8]) -> Row {

@@ -54,13 +54,14 @@ struct Source<'a> {
 }
 
 /// "A write needs RW granted. A read needs READ granted, or RW granted under a
-/// body without flag 4; where both serve at its first byte, READ is used."
+/// body without flag 4; where both serve at its first byte, RW is used." (C-11)
 fn source_of<'a>(table: &Table, store: &'a [u8], request: &IoRequest) -> Option<Source<'a>> {
     let granted = |iomode| granted_at(table, store, iomode, request.offset);
     match request.direction {
         Direction::Write => granted(Iomode::ReadWrite),
-        Direction::Read => granted(Iomode::Read)
-            .or_else(|| granted(Iomode::ReadWrite).filter(|source| source.layout.flags & NO_READ_IO == 0)),
+        Direction::Read => granted(Iomode::ReadWrite)
+            .filter(|source| source.layout.flags & NO_READ_IO == 0)
+            .or_else(|| granted(Iomode::Read)),
     }
 }
 
@@ -168,19 +169,41 @@ mod tests {
         events[..right as usize].to_vec()
     }
 
+    /// The answers to a read where READ is none, granted and recalled, an
+    /// iomode's number or 17; by RW's right and flag 4 in its body.
+    const READS: [(u32, u32, [u32; 3]); 6] = [
+        (0, 0, [17, 1, 17]),
+        (0, 4, [17, 1, 17]),
+        (1, 0, [2, 2, 2]),
+        (1, 4, [17, 1, 17]),
+        (2, 0, [17, 1, 17]),
+        (2, 4, [17, 1, 17]),
+    ];
+
     #[test]
     fn rights_that_serve() {
-        for (read, rw) in (0..9).map(|pair| (pair / 3, pair % 3)) {
-            for flags in 0..16 {
-                // The READ body's own flags do not matter, flag 4 among them.
-                let events = [rights(1, read, 15 - flags), rights(2, rw, flags)].concat();
-                let state = after(&events);
-                let by_rw = if rw == 1 && flags & 4 == 0 { 2 } else { 17 };
-                let expected = if read == 1 { 1 } else { by_rw };
-                assert_eq!(number(state.locate(&IoRequest::read(9, 1))), expected);
-                let expected = if rw == 1 { 2 } else { 17 };
-                assert_eq!(number(state.locate(&IoRequest::write(9, 1))), expected);
+        for (rw, flag_4, answers) in READS {
+            for (read, expected) in answers.into_iter().enumerate() {
+                // The other flags do not matter, nor do the READ body's own.
+                for (flags, read_flags) in [0, 1, 2, 8, 11].into_iter().flat_map(|f| (0..16).map(move |r| (f, r))) {
+                    let read_events = rights(IOMODE_READ, read as u32, read_flags);
+                    let state = after(&[read_events, rights(IOMODE_RW, rw, flags | flag_4)].concat());
+                    assert_eq!(number(state.locate(&IoRequest::read(9, 1))), expected);
+                    let expected = if rw == 1 { 2 } else { 17 };
+                    assert_eq!(number(state.locate(&IoRequest::write(9, 1))), expected);
+                }
             }
+        }
+    }
+
+    /// Flag 4 in the one body that both iomodes name bars RW only.
+    #[test]
+    fn one_body_in_both_iomodes() {
+        for (flags, expected) in [(0, 2), (4, 1), (11, 2), (15, 1)] {
+            let plan = LayoutPlan { flags, ..LayoutPlan::plain(1, 1) };
+            let state = after(&[IOMODE_READ, IOMODE_RW].map(|iomode| granted(iomode, 0, LAST_BYTE, &plan)));
+            let found = state.locate(&IoRequest::read(9, 1)).unwrap();
+            assert_eq!((found.iomode.number(), found.slot), (expected, 0));
         }
     }
 
@@ -237,17 +260,70 @@ mod tests {
         assert_eq!(piece(&longest, LAST_BYTE - 1, 1), 1);
     }
 
+    /// Two bodies of one server; the second one has the flags.
+    fn two_bodies(flags: u32) -> [LayoutPlan; 2] {
+        [(1, 0), (2, flags)].map(|(hint, flags)| LayoutPlan { hint, flags, ..LayoutPlan::plain(1, 1) })
+    }
+
+    /// Iomode, slot and piece of a read of 80 bytes.
+    fn read_of_80(state: &State, offset: u64) -> (u32, u32, u64) {
+        let found = state.locate(&IoRequest::read(offset, 80)).unwrap();
+        (found.iomode.number(), found.slot, found.length)
+    }
+
+    /// RW has 10..59. READ ends before it, after it and with it, under another
+    /// body, in slot 0, and under the same one.
+    #[test]
+    fn a_read_through_rw_ends_with_the_rw_segment() {
+        let [one, other] = two_bodies(0);
+        for (first, last) in [(10, 19), (12, 18), (0, 99), (0, LAST_BYTE), (10, 59), (18, 59)] {
+            for (write, slot) in [(&other, 1), (&one, 0)] {
+                let state = after(&[granted(1, first, last, &one), granted(2, 10, 59, write)]);
+                assert_eq!(read_of_80(&state, 18), (2, slot, 42));
+            }
+        }
+    }
+
+    /// READ has 0..99, in slot 0. RW has flag 4, is recalled or is not held.
     #[test]
     fn a_read_through_read_ends_with_the_read_segment() {
-        let [one, other] = [1, 2].map(|hint| LayoutPlan { hint, ..LayoutPlan::plain(1, 1) });
-        let state = after(&[granted(1, 0, 9, &one), granted(2, 0, 99, &other), recall(1, 8, 9)]);
-        let found = |offset| {
-            let found = state.locate(&IoRequest::read(offset, 50)).unwrap();
-            (found.iomode, found.slot, found.length)
-        };
-        assert_eq!(found(5), (Iomode::Read, 0, 3));
-        assert_eq!(found(8), (Iomode::ReadWrite, 1, 50));
-        assert_eq!(found(60), (Iomode::ReadWrite, 1, 40));
+        for (flags, rw_events) in [(4, 1), (0, 2), (4, 2), (0, 0)] {
+            let [one, other] = two_bodies(flags);
+            for (first, last) in [(10, 29), (10, 199), (10, 99)] {
+                let rw = [granted(2, first, last, &other), recall(2, first, last)];
+                let state = after(&[&[granted(1, 0, 99, &one)][..], &rw[..rw_events]].concat());
+                assert_eq!(read_of_80(&state, 25), (1, 0, 75));
+            }
+        }
+    }
+
+    /// READ has 0..99 and RW 40..69: a read that starts before RW or after it
+    /// goes through READ, over bytes at which both serve.
+    #[test]
+    fn only_the_first_byte_is_looked_at() {
+        let [one, other] = two_bodies(0);
+        let state = after(&[granted(1, 0, 99, &one), granted(2, 40, 69, &other)]);
+        let expected = [(0, (1, 0, 80)), (39, (1, 0, 61)), (40, (2, 1, 30)), (69, (2, 1, 1)), (70, (1, 0, 30))];
+        for (offset, answer) in expected {
+            assert_eq!(read_of_80(&state, offset), answer);
+        }
+    }
+
+    /// READ: units of 7 on two servers, mirror 0 the best. RW: units of 10 on
+    /// three servers, mirror 1 the best. Byte 25 is in READ's unit 3, up to 27,
+    /// and in RW's unit 2, up to 29.
+    #[test]
+    fn stripe_and_mirror_are_those_of_the_body_that_serves() {
+        let read = LayoutPlan { unit: 7, ..with_efficiencies(LayoutPlan::plain(3, 2), &[9, 1, 1]) };
+        let write = LayoutPlan { unit: 10, ..with_efficiencies(LayoutPlan::plain(2, 3), &[1, 2]) };
+        let through_read = Location { iomode: Iomode::Read, slot: 0, stripe: 1, offset: 25, length: 3, mirrors: 1 };
+        let through_rw = Location { iomode: Iomode::ReadWrite, slot: 1, stripe: 2, offset: 25, length: 5, mirrors: 2 };
+        for (flags, rw_events, expected) in [(0, 1, through_rw), (4, 1, through_read), (0, 2, through_read)] {
+            let write = LayoutPlan { flags, ..write.clone() };
+            let rw = [granted(2, 0, LAST_BYTE, &write), recall(2, 0, LAST_BYTE)];
+            let state = after(&[&[granted(1, 0, LAST_BYTE, &read)][..], &rw[..rw_events]].concat());
+            assert_eq!(state.locate(&IoRequest::read(25, 50)), Ok(expected));
+        }
     }
 
     #[test]
@@ -282,13 +358,13 @@ mod tests {
     fn a_write_looks_at_its_own_body() {
         let read = with_efficiencies(LayoutPlan::plain(2, 1), &[2, 1]);
         let write = with_efficiencies(LayoutPlan::plain(2, 1), &[1, 2]);
-        for flags in [0, 8] {
-            let read = LayoutPlan { flags: 8 - flags, ..read.clone() };
+        // With flag 4 the read goes by the READ body.
+        for (flags, read_mirrors, written) in [(0, 2, 3), (8, 2, 2), (4, 1, 3), (12, 1, 2)] {
+            let read = LayoutPlan { flags: 12 - flags, ..read.clone() };
             let write = LayoutPlan { flags, ..write.clone() };
             let state = after(&[granted(1, 0, LAST_BYTE, &read), granted(2, 0, LAST_BYTE, &write)]);
-            assert_eq!(state.locate(&IoRequest::read(0, 1)).unwrap().mirrors, 1);
-            let expected = if flags == 8 { 2 } else { 3 };
-            assert_eq!(state.locate(&IoRequest::write(0, 1)).unwrap().mirrors, expected);
+            assert_eq!(state.locate(&IoRequest::read(0, 1)).unwrap().mirrors, read_mirrors);
+            assert_eq!(state.locate(&IoRequest::write(0, 1)).unwrap().mirrors, written);
         }
     }
 

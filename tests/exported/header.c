@@ -296,9 +296,10 @@ static void test_iomodes(void)
 
     CONSTANT(BASILOTHYN_ANY, 3, highest_iomode());
     CHECK(grant(&f, 0, 100, BASILOTHYN_READ, smallest) == 0);
+    CONSTANT(BASILOTHYN_READ, 1, locate_read(&f, 0, 1).iomode);
     CHECK(locate_write(&f, 0, 1).refusal == 17);
     CHECK(grant(&f, 0, 100, BASILOTHYN_RW, smallest) == 0);
-    CONSTANT(BASILOTHYN_READ, 1, locate_read(&f, 0, 1).iomode);
+    CONSTANT(BASILOTHYN_RW, 2, locate_read(&f, 0, 1).iomode);
     CONSTANT(BASILOTHYN_RW, 2, locate_write(&f, 0, 1).iomode);
     read_recalled = rw_recalled = f;
     CHECK(recall(&read_recalled, 0, 100, BASILOTHYN_READ) == 0);
@@ -384,6 +385,44 @@ static void test_stripes(void)
     r = locate_read(&f, 0, 0);
     CONSTANT(BASILOTHYN_RANGE_INVALID, 5, r.refusal);
     CHECK(r.iomode == 0 && r.slot == 0 && r.stripe == 0 && r.offset == 0 && r.length == 0 && r.mirrors == 0);
+}
+
+/* READ on 0..99 in slot 0, one server; RW on 10..17 in slot 1, two servers, of which the second has these bytes. */
+static struct file in_both_iomodes(uint32_t read_flags, uint32_t rw_flags)
+{
+    struct file f = new_file();
+    struct layout_plan read = smallest, rw = smallest;
+
+    read.flags = read_flags;
+    rw.flags = rw_flags;
+    rw.unit = 10;
+    rw.servers = 2;
+    CHECK(grant(&f, 0, 100, BASILOTHYN_READ, read) == 0);
+    CHECK(grant(&f, 10, 8, BASILOTHYN_RW, rw) == 0);
+    return f;
+}
+
+static int goes(struct basilothyn_locate_result r, uint32_t iomode, uint32_t slot, uint32_t stripe, uint64_t length)
+{
+    return r.refusal == 0 && r.iomode == iomode && r.slot == slot && r.stripe == stripe && r.length == length;
+}
+
+/* A read is served by RW under a body without flag 4, else by READ, whatever the flags of READ's body. */
+static void test_reads(void)
+{
+    for (uint32_t read_flags = 0; read_flags < 16; read_flags++) {
+        struct file both = in_both_iomodes(read_flags, 11), barred = in_both_iomodes(read_flags, 4), recalled = both;
+
+        CHECK(goes(locate_read(&both, 12, 90), BASILOTHYN_RW, 1, 1, 6));
+        CHECK(goes(locate_read(&both, 9, 90), BASILOTHYN_READ, 0, 0, 90));
+        CHECK(goes(locate_read(&both, 18, 90), BASILOTHYN_READ, 0, 0, 82));
+        CHECK(goes(locate_read(&barred, 12, 90), BASILOTHYN_READ, 0, 0, 88));
+        CHECK(goes(locate_write(&barred, 12, 90), BASILOTHYN_RW, 1, 1, 6));
+        CHECK(recall(&recalled, 12, 1, BASILOTHYN_RW) == 0);
+        CHECK(goes(locate_read(&recalled, 12, 90), BASILOTHYN_READ, 0, 0, 88));
+        CHECK(goes(locate_read(&recalled, 13, 90), BASILOTHYN_RW, 1, 1, 5));
+        CHECK(give_back(&recalled, 0, WHOLE, BASILOTHYN_READ) == 0 && locate_read(&recalled, 12, 90).refusal == 17);
+    }
 }
 
 /* A read goes to the highest efficiency, the lowest mirror on a tie; a write to all, with flag 8 to that one. With flag
@@ -524,6 +563,7 @@ int main(void)
     test_full_store();
     test_unsound();
     test_stripes();
+    test_reads();
     test_mirrors();
     test_written(0, 0, 8);
     test_written(1, 1, 68);

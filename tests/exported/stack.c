@@ -11,7 +11,7 @@
 enum { PAINTED = 1 << 20, PAINT = 165 };
 
 /* What the calls take and give stands outside of the stack. */
-static struct file f;
+static struct file f, in_both;
 static struct bytes granted, layout, device, reports;
 static struct basilothyn_report_heads heads;
 static struct basilothyn_error errors[128];
@@ -35,6 +35,11 @@ static void call_grant(void)
 static void call_return(void) { event = basilothyn_return(event.table, f.store, sizeof f.store, 100, 1, 3); }
 static void call_recall(void) { event = basilothyn_recall(event.table, f.store, sizeof f.store, 50, 10, 3); }
 static void call_locate_read(void) { located = basilothyn_locate_read(event.table, f.store, sizeof f.store, 0, 1); }
+/* RW has flag 4, so that READ is looked at too. */
+static void call_locate_read_in_both(void)
+{
+    located = basilothyn_locate_read(in_both.table, in_both.store, sizeof in_both.store, 0, 1);
+}
 static void call_locate_write(void) { located = basilothyn_locate_write(event.table, f.store, sizeof f.store, 0, 1); }
 static void call_revoke(void) { event = basilothyn_revoke(event.table, f.store, sizeof f.store); }
 static void call_read_layout(void) { layout_read = basilothyn_read_layout(layout.at, layout.length); }
@@ -59,6 +64,7 @@ static const struct {
     {"basilothyn_return", call_return, &event.refusal},
     {"basilothyn_recall", call_recall, &event.refusal},
     {"basilothyn_locate_read", call_locate_read, &located.refusal},
+    {"basilothyn_locate_read", call_locate_read_in_both, &located.refusal},
     {"basilothyn_locate_write", call_locate_write, &located.refusal},
     {"basilothyn_revoke", call_revoke, &event.refusal},
     {"basilothyn_read_layout", call_read_layout, &layout_read.refusal},
@@ -110,6 +116,11 @@ static void prepare(void)
     f = new_file();
     granted = layout4(0, WHOLE, 2, p);
     layout = layout_body(p);
+    p.flags = 4;
+    in_both = new_file();
+    CHECK(grant(&in_both, 0, WHOLE, 2, p) == 0);
+    p.flags = 0;
+    CHECK(grant(&in_both, 0, WHOLE, 1, p) == 0);
     device = device_body(8, "tcp", "192.0.2.1.8.1", 1, &v);
     reports = report_body(8, 16);
     for (uint32_t i = 0; i < BASILOTHYN_REPORTS; i++)

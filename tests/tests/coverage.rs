@@ -1,8 +1,13 @@
 //! What the case files reach: every refusal number of this part often enough,
-//! and every kind of case both accepted and refused.
+//! every kind of case both accepted and refused, and every choice between the
+//! iomodes that serve a read.
+
+#[path = "support/reads.rs"]
+mod reads;
 
 use case_files::generate::{mixed::random_file, stored::stored_file};
 use independent::answers::answer_file;
+use reads::{rights_of_reads, Rights};
 use std::collections::{BTreeMap, BTreeSet};
 
 /// The numbers of 01's table that belong to the wire part.
@@ -102,6 +107,14 @@ fn assert_requests_vary(answers: &str) {
     }
 }
 
+/// Reads at whose first byte READ and RW are in each of their situations.
+fn assert_each_choice_comes(counts: &BTreeMap<Rights, usize>) {
+    for rights in Rights::TOLD {
+        let count = counts.get(&rights).copied().unwrap_or(0);
+        assert!(count >= 10, "{rights:?} comes {count} times");
+    }
+}
+
 #[test]
 fn the_stored_file_reaches_every_refusal_often() {
     let answers = answer_file(&stored_file().expect("the captures"));
@@ -128,4 +141,21 @@ fn random_files_reach_every_refusal() {
     assert_each_name_is_accepted_and_refused(&answers);
     assert_limits_are_reached(&answers);
     assert_requests_are_answered(&answers);
+}
+
+#[test]
+fn the_stored_file_reaches_every_choice_of_iomode() {
+    assert_each_choice_comes(&rights_of_reads(&stored_file().expect("the captures")));
+}
+
+/// The files that the gate puts to the proved program.
+#[test]
+fn random_files_reach_every_choice_of_iomode() {
+    let mut counts = BTreeMap::new();
+    for seed in 1..=24 {
+        for (rights, count) in rights_of_reads(&random_file(seed, 500)) {
+            *counts.entry(rights).or_default() += count;
+        }
+    }
+    assert_each_choice_comes(&counts);
 }

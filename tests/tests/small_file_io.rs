@@ -78,18 +78,24 @@ fn granted_layout(both: &SideBySide, iomode: Iomode, byte: u64) -> Option<usize>
     }
 }
 
-/// The answer by the model, byte after byte; nothing stands for 17.
-fn expected(both: &SideBySide, request: &IoRequest) -> Option<Location> {
-    let IoRequest { direction, offset, length } = *request;
-    let (iomode, number) = Iomode::BOTH.into_iter().find_map(|iomode| {
-        let number = granted_layout(both, iomode, offset)?;
+/// The iomode that serves a byte, and the number of its layout. Where both
+/// serve a read, "RW is used" (C-11), so RW is looked at first.
+fn serving(both: &SideBySide, direction: Direction, byte: u64) -> Option<(Iomode, usize)> {
+    [Iomode::ReadWrite, Iomode::Read].into_iter().find_map(|iomode| {
+        let number = granted_layout(both, iomode, byte)?;
         let serves = match (direction, iomode) {
             (Direction::Write, _) => iomode == Iomode::ReadWrite,
             (Direction::Read, Iomode::Read) => true,
             (Direction::Read, Iomode::ReadWrite) => LAYOUTS[number].3 & 4 == 0,
         };
         serves.then_some((iomode, number))
-    })?;
+    })
+}
+
+/// The answer by the model, byte after byte; nothing stands for 17.
+fn expected(both: &SideBySide, request: &IoRequest) -> Option<Location> {
+    let IoRequest { direction, offset, length } = *request;
+    let (iomode, number) = serving(both, direction, offset)?;
     let right = both.model.right_at(iomode, offset);
     let bytes = counted(number);
     let (unit_number, stripe) = bytes[offset as usize];
@@ -111,10 +117,15 @@ fn event(random: &mut Random) -> Event {
     }
 }
 
+/// Offset and length of every request.
+fn requests() -> impl Iterator<Item = (u64, u64)> {
+    (0..SIZE as u64).flat_map(|offset| [1, 2, 5, 13, 40].map(|length| (offset, length)))
+}
+
 /// Makes every request and counts the answers: 17, or the iomode's number.
 fn ask_all(both: &SideBySide, answers: &mut BTreeMap<(&'static str, u32), usize>) {
     for direction in Direction::BOTH {
-        for (offset, length) in (0..SIZE as u64).flat_map(|o| [1, 2, 5, 13, 40].map(|l| (o, l))) {
+        for (offset, length) in requests() {
             let request = IoRequest { direction, offset, length };
             let found = both.state.locate(&request);
             assert_eq!(found.ok(), expected(both, &request), "{request:?}");
@@ -127,23 +138,51 @@ fn ask_all(both: &SideBySide, answers: &mut BTreeMap<(&'static str, u32), usize>
     }
 }
 
-#[test]
-fn requests_by_the_model() {
-    let mut answers = BTreeMap::new();
+/// Puts all lists of events, and looks at what they lead to now and then.
+fn for_each_look(mut look: impl FnMut(&SideBySide)) {
     for seed in 0..LISTS {
         let mut random = Random::new(seed);
         let mut both = SideBySide::default();
         for number in 1..=EVENTS_A_LIST {
             both.apply(&event(&mut random));
             if number % EVENTS_A_LOOK == 0 {
-                ask_all(&both, &mut answers);
+                look(&both);
             }
         }
     }
+}
+
+#[test]
+fn requests_by_the_model() {
+    let mut answers = BTreeMap::new();
+    for_each_look(|both| ask_all(both, &mut answers));
     let reached: Vec<_> = answers.keys().copied().collect();
     let all = [("read-at", 1), ("read-at", 2), ("read-at", 17), ("write-at", 2), ("write-at", 17)];
     assert_eq!(reached, all);
     assert!(answers.values().all(|&count| count >= 1_000), "{answers:?}");
+}
+
+/// Where RW is granted under a body without flag 4, a read goes where a write
+/// of the same bytes goes, to one of its mirrors, whatever READ is there.
+#[test]
+fn reads_go_where_writes_go() {
+    let mut beside_read = 0;
+    for_each_look(|both| {
+        for (offset, length) in requests() {
+            let granted = granted_layout(both, Iomode::ReadWrite, offset);
+            if granted.is_none_or(|number| LAYOUTS[number].3 & 4 != 0) {
+                continue;
+            }
+            let [read, write] = Direction::BOTH.map(|direction| {
+                let request = IoRequest { direction, offset, length };
+                both.state.locate(&request).expect("RW serves both")
+            });
+            assert_eq!(Location { mirrors: write.mirrors, ..read }, write);
+            assert_eq!((read.mirrors.count_ones(), read.mirrors & !write.mirrors), (1, 0));
+            beside_read += usize::from(granted_layout(both, Iomode::Read, offset).is_some());
+        }
+    });
+    assert!(beside_read >= 1_000, "{beside_read} of them where READ is granted too");
 }
 
 /// A file read and written in pieces: they follow each other up to the end,

@@ -60,12 +60,12 @@ impl Layouts {
         self.keep(result)
     }
 
-    /// Where the first piece of a read goes.
+    /// Where the first piece of a read goes: through RW under a body without flag 4, else through READ.
     pub fn locate_read(&self, offset: u64, length: u64) -> Result<Piece, Refusal> {
         piece(raw::locate_read(self.table, &self.store, offset, length))
     }
 
-    /// Where the first piece of a write goes.
+    /// Where the first piece of a write goes: through RW.
     pub fn locate_write(&self, offset: u64, length: u64) -> Result<Piece, Refusal> {
         piece(raw::locate_write(self.table, &self.store, offset, length))
     }

@@ -24,6 +24,29 @@ fn a_write_goes_to_the_stripe_of_its_unit() {
     is_piece(granted().locate_read(65_536, 4_096), 1, 65_536, 4_096);
 }
 
+/// The captured layout in another iomode and with other flags; docs/CHART.md shows both in its bytes.
+fn changed(iomode: Iomode, flags: u8) -> Vec<u8> {
+    let mut layout4 = P4.to_vec();
+    let last_of_flags = layout4.len() - 5;
+    layout4[19] = iomode.number() as u8;
+    layout4[last_of_flags] = flags;
+    layout4
+}
+
+/// "where both serve at its first byte, RW is used" (C-11). READ's body is in slot 0, RW's in slot 1.
+#[test]
+fn a_read_goes_through_rw_unless_flag_4_is_in_its_body() {
+    for (flags, expected) in [(1, (Iomode::ReadWrite, SlotNumber(1))), (4, (Iomode::Read, SlotNumber(0)))] {
+        let mut layouts = Layouts::default();
+        assert_eq!(layouts.grant(&changed(Iomode::Read, 0)), Ok(()));
+        assert_eq!(layouts.grant(&changed(Iomode::ReadWrite, flags)), Ok(()));
+        let served = |layouts: &Layouts| layouts.locate_read(0, 1).map(|piece| (piece.iomode, piece.slot));
+        assert_eq!(served(&layouts), Ok(expected));
+        assert_eq!(layouts.recall(0, u64::MAX, Iomode::ReadWrite), Ok(()));
+        assert_eq!(served(&layouts), Ok((Iomode::Read, SlotNumber(0))));
+    }
+}
+
 #[test]
 fn a_slot_has_the_body_until_it_is_cleared() {
     let mut layouts = granted();

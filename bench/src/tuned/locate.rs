@@ -26,8 +26,8 @@ type Source = (u32, u64, u8);
 pub fn locate_read(table: &Table, store: &[u8], offset: u64, length: u64) -> Result<Location, u32> {
     let named = sound(table, store)?;
     check_io(offset, length)?;
-    let by_rw = || granted_at(&table.rw, RW, offset).filter(|source| flags(body_of(&named, source)) & NO_READ == 0);
-    let source = granted_at(&table.read, READ, offset).or_else(by_rw).ok_or(17_u32)?;
+    let by_rw = granted_at(&table.rw, RW, offset).filter(|source| flags(body_of(&named, source)) & NO_READ == 0);
+    let source = by_rw.or_else(|| granted_at(&table.read, READ, offset)).ok_or(17_u32)?;
     let body = body_of(&named, &source);
     Ok(piece(body, source, offset, length, 1 << best_mirror(body)))
 }

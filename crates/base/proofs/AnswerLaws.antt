@@ -56,3 +56,9 @@ pub pick-accepted : {A : Type 0} (t : Bool) (x : Answer A) (n : ℕ) (a : A) →
 unfolding pick
 pick-accepted true x n a h = (refl, h)
 pick-accepted false x n a h = never-accepted n a h
+
+-- the test that it did not meet
+pub pick-not-refused : {A : Type 0} (t : Bool) (n : ℕ) (x : Answer A) (a : A) → pick t (refused n) x ≡ accepted a → (t ≡ false) × (x ≡ accepted a)
+unfolding pick
+pick-not-refused true n x a h = never-accepted n a h
+pick-not-refused false n x a h = (refl, h)

@@ -3,3 +3,4 @@ pub mod BodyRefusals
 pub mod BodySizes
 pub mod EventRefusals
 pub mod EndToEnd
+pub mod RightsAnswered

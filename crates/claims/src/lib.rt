@@ -19,9 +19,10 @@ ghost use lib.ListN.{getD, length, replicate, take};
 ghost use Rattle.base.specs.Limits.{errorSize, mostServers, reportHeadSize};
 ghost use Rattle.base.specs.Answer.{accepted, refused, given};
 ghost use Rattle.base.specs.Bits.{bit};
+ghost use Rattle.base.specs.declared.iomode.Iomode.the-variants.{Read, ReadWrite};
 ghost use Rattle.bytes.specs.Numbers.{AllBytes, beBytes, beValue};
 ghost use Rattle.server.specs.declared.item.Server.{Server};
-ghost use Rattle.layout.specs.Layouts.{Layout, layoutBody, startAt, startsOf};
+ghost use Rattle.layout.specs.Layouts.{Layout, flagsAtEnd, layoutBody, startAt, startsOf};
 ghost use Rattle.layout4.specs.Layout4s.{WholeLayout, layout4};
 ghost use Rattle.device.specs.Bodies.{deviceBody};
 ghost use Rattle.binding.specs.Bindings.{boundTo};
@@ -42,7 +43,8 @@ ghost use Rattle.route.specs.Routes.{iomodeFor, layoutIn, routed};
 ghost use Rattle.store.specs.Store.{bodyIn, slotAt, zeroStore};
 ghost use Rattle.model.specs.Invariants.{leftBy};
 ghost use Rattle.soundness.specs.AnyTable.{EndsBy, OfModel, Typed, modelOf};
-ghost use Rattle.model.specs.Claim.{Calls, Demand3, Fits, acceptedOf, answered, keptLeft, rightGiven, storeLeft};
+ghost use Rattle.model.specs.Claim.{Calls, Demand3, Fits, acceptedOf, answered, keptLeft, rightGiven, rightIn};
+ghost use Rattle.model.specs.Claim.{storeLeft};
 ghost use Rattle.model.specs.Cases as cases;
 ghost use Rattle.model.specs.Cases.{bodyOf, grantBytes};
 ghost use Rattle.model.specs.StandIns.{changesNothing, firstOnly, refusesAll};
@@ -55,7 +57,8 @@ ghost use Rattle.examples.specs.Examples.{ExampleHolds, examples};
 ghost use Rattle.abi_table.specs.TableRecords.{recordOf, tableIn};
 ghost use Rattle.abi_table.specs.declared.types.TableRecord.{TableRecord};
 ghost use Rattle.basilothyn.specs.Calls.{eventOnRecord, emptyRecord, locateResult, recorded, routedOn, tableOfRecord};
-ghost use Rattle.claims.specs.Statements.{BestOf, PieceLies, ServerAt, grantsByte, isOneOf};
+ghost use Rattle.claims.specs.Statements.{BestOf, PieceLies, ReadAsWritten, ServerAt};
+ghost use Rattle.claims.specs.Statements.{grantsByte, hasRight, isGrantedWithoutFlag4, isOneOf};
 
 // ==== The three demands
 
@@ -177,7 +180,7 @@ pub fn demand_3()
 
 // Demand 3 and where an I/O goes, joined: after every list of events an I/O is served exactly as the rights say that
 // the accepted events give its first byte (`servedByRights`). A write is answered where that byte is granted in RW,
-// under the body of that grant; a read where it is granted in READ, or else in RW under a body without flag 4;
+// under the body of that grant; a read where it is granted in RW under a body without flag 4, or else in READ;
 // elsewhere the answer is 17. A request that is out of order is 5, and 20 never comes.
 pub fn io_goes_by_the_rights_that_events_give()
     ensures { λ r. ⌜ ((es : List Event) → Each Fits es → (write : Bool) (offset len : ℕ)
@@ -252,6 +255,12 @@ pub fn other_starts_are_zero()
         → startAt (l .starts) m k ≡ 0) ⌝ }
 {}
 
+// "flags (4); statistics hint (4, any)", and nothing may follow: the flags of an accepted body are eight bytes before
+// its end, where `layout::flags_at_end` takes them.
+pub fn flags_are_at_the_end()
+    ensures { λ r. ⌜ ((s : List ℕ) (l : Layout) → layoutBody s ≡ accepted l → flagsAtEnd s ≡ l .summary .flags) ⌝ }
+{}
+
 // "The smallest accepted body has 80 bytes"; of layout4 "The smallest has 108 bytes": no accepted one has fewer, and
 // one has so many. "By these counts a body has at most 3,368 bytes ..; one report with one error has 68": 8 bytes, 36
 // a report and 24 an error.
@@ -317,6 +326,37 @@ pub fn writes_need_a_grant()
     ensures { λ r. ⌜ ((t : Table) (store : List ℕ) (offset len : ℕ) (p : Piece) → routed true t store offset len
         ≡ accepted p
         → rightAt (listIn t RW) offset ≡ Granted (p .slot)) ⌝ }
+{}
+
+// "A write needs RW granted. A read needs READ granted, or RW granted under a body without flag 4": on a sound table
+// and store a request that is in order is answered exactly where its first byte has that right, and refused with 17
+// elsewhere. So "Rights and refusals don't change" (C-11): `hasRight` does not ask which of two rights is used.
+pub fn requests_are_answered_where_they_have_the_right()
+    ensures { λ r. ⌜ ((write : Bool) (t : Table) (store : List ℕ) (offset len last : ℕ) → sound t store ≡ true
+        → requestLast offset len ≡ accepted last
+        → (hasRight write (rightIn t store READ offset) (rightIn t store RW offset) ≡ true
+        → isAccepted (routed write t store offset len) ≡ true)
+        × (hasRight write (rightIn t store READ offset) (rightIn t store RW offset) ≡ false
+        → routed write t store offset len ≡ refused 17)) ⌝ }
+{}
+
+// "where both serve at its first byte, RW is used" (C-11): an answered read names RW exactly where RW is granted at
+// its first byte under a body without flag 4, whatever READ is there; else it names READ.
+pub fn reads_go_through_rw_where_it_serves()
+    ensures { λ r. ⌜ ((t : Table) (store : List ℕ) (offset len : ℕ) (p : Piece)
+        → routed false t store offset len ≡ accepted p
+        → (isGrantedWithoutFlag4 (rightIn t store RW offset) ≡ true → p .iomode ≡ ReadWrite)
+        × (isGrantedWithoutFlag4 (rightIn t store RW offset) ≡ false → p .iomode ≡ Read)) ⌝ }
+{}
+
+// So a read and a write of the same bytes use one set of mirrors: where a write is answered under a body without flag
+// 4, the read of the same request is answered too, with the same bytes of the same body and stripe, and its mirror is
+// one of the write's (`ReadAsWritten`).
+pub fn reads_go_where_writes_go()
+    ensures { λ r. ⌜ ((t : Table) (store : List ℕ) (offset len : ℕ) (p : Piece) (l : Layout)
+        → routed true t store offset len ≡ accepted p → layoutIn store (p .slot .0) ≡ accepted l
+        → bit 4 (l .summary .flags) ≡ false
+        → (q : Piece) × (routed false t store offset len ≡ accepted q) × ReadAsWritten l p q) ⌝ }
 {}
 
 // "A read names one mirror: the highest efficiency, lowest number on a tie; each mirror is judged by the efficiency

@@ -21,7 +21,7 @@ use Rattle.soundness.specs.Sound.{allBlank, apart, apartFromNext, inOrder, isFi
 use Rattle.report.specs.Reports.{errorFits}
 use Rattle.report.specs.Writing.{allFit, bodyBytes, bodyWritten, counts, errorBytes, errorsBytes, fitted, headBytes, checkedReports, checkedReport, reportsBytes, reportsWritten}
 use Rattle.route.specs.Mirrors.{bestMirror, efficiencyOf}
-use Rattle.route.specs.Routes.{grantIn, layoutIn, mirrorsNamed, pieceAt, routed, served}
+use Rattle.route.specs.Routes.{grantIn, grantWithLayout, layoutIn, mirrorsNamed, pieceAt, routed, served}
 use Rattle.route.specs.Stripes.{pieceLength, stripeOf, unitRest}
 use Rattle.segments.specs.Segments.{anyBelow, anyNames, inFront, inEntries, isNamed, scan, segmentsOf, withByte}
 use Rattle.server.specs.Servers.{handlesAt, serverHeadAt, serverAt}
@@ -59,7 +59,7 @@ all-in-full (Range offset len last ∷ xs) s h = (h .0, all-in-full xs s (h .1))
 all-in-full (NoReport bytes ∷ xs) s h = (h .0, all-in-full xs s (h .1))
 
 examples-short : Each HoldsShort examples
-unfolding given pick grantIomodeOf iomodeOf padded rangeLast requestLast frontAt layoutAt layoutBody mirrorAt mirrorsAt rows startAt startsOf tailAt unitFits frameAt layout4 layout4At rangeAt beAt beBytes beFrom beValue leAt leBytes leValue sameBytes bodyOf grantBytes servers act afterAt answerTo answers anyByte covers grantCommand ifNamed inLowest inSlots meets modelAfter noneEmpty readCommand rangeCommand run segmentsIn slotOf tooMany verdict allBlank apart apartFromNext inOrder isFit allDistinct segmentsSound slotSound slotsFrom slotsIn slotsSound sound errorFits allFit bodyBytes bodyWritten counts errorBytes errorsBytes fitted headBytes checkedReports checkedReport reportsBytes reportsWritten best bestMirror efficiencyOf grantIn layoutIn mirrorsNamed pieceAt routed served pieceLength stripeOf unitRest anyBelow anyNames inFront inEntries isNamed scan segmentsOf withByte handlesAt serverHeadAt serverAt bodyIn kindIn lengthIn slotBytes storeOf allZero bytesAt countAt numAt opaqueAt asItem manyAt then whole
+unfolding given pick grantIomodeOf iomodeOf padded rangeLast requestLast frontAt layoutAt layoutBody mirrorAt mirrorsAt rows startAt startsOf tailAt unitFits frameAt layout4 layout4At rangeAt beAt beBytes beFrom beValue leAt leBytes leValue sameBytes bodyOf grantBytes servers act afterAt answerTo answers anyByte covers grantCommand ifNamed inLowest inSlots meets modelAfter noneEmpty readCommand rangeCommand run segmentsIn slotOf tooMany verdict allBlank apart apartFromNext inOrder isFit allDistinct segmentsSound slotSound slotsFrom slotsIn slotsSound sound errorFits allFit bodyBytes bodyWritten counts errorBytes errorsBytes fitted headBytes checkedReports checkedReport reportsBytes reportsWritten best bestMirror efficiencyOf grantIn grantWithLayout layoutIn mirrorsNamed pieceAt routed served pieceLength stripeOf unitRest anyBelow anyNames inFront inEntries isNamed scan segmentsOf withByte handlesAt serverHeadAt serverAt bodyIn kindIn lengthIn slotBytes storeOf allZero bytesAt countAt numAt opaqueAt asItem manyAt then whole
 examples-short = (refl, (refl, (refl, (refl, (refl, (refl, ((refl, refl, refl), ((refl, refl, refl), ((refl, refl, refl), ((refl, refl, refl), (refl, (refl, ((refl, refl, refl), (refl, tt))))))))))))))
 
 examples-stay : stayShort examples ≡ true

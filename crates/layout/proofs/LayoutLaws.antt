@@ -6,20 +6,21 @@ use mathlib.Core.Bool.{true}
 use mathlib.Core.List.{List, [], _∷_, map}
 use native.Mathlib.Decide.{decLt}
 use native.Mathlib.Omega.{arith}
-use borrow.Author.Tests.{le-ltb, lt-ltb}
+use borrow.Author.Tests.{le-leb, le-ltb, lt-ltb}
 use lib.ListN.{length, getD, length-map, List·getD-append, List·getD-eq-default}
 use lib.Seq.{getD-append-add}
 use Rattle.base.specs.Answer.{accepted, pick}
 use Rattle.base.specs.Lists.{Each, padded}
 use Rattle.base.proofs.ListLaws.{each-at, each-map, length-padded, padded-at}
-use Rattle.base.proofs.AnswerLaws.{pick-accepted}
+use Rattle.base.proofs.AnswerLaws.{pick-accepted, pick-true}
+use Rattle.bytes.specs.Numbers.{beAt}
 use Rattle.xdr.specs.Parsed.{ok, manyAt, whole}
-use Rattle.xdr.proofs.Accepted.{pick-inv, then-inv, same-offset, same-value, whole-read}
+use Rattle.xdr.proofs.Accepted.{number-read, pick-inv, then-inv, same-offset, same-value, whole-read}
 use Rattle.xdr.proofs.ManyLaws.{many-each}
 use Rattle.server.specs.Servers.{serverAt}
 use Rattle.server.specs.declared.item.Server.{Server}
 use Rattle.server.proofs.ServerLaws.{server-read}
-use Rattle.layout.specs.Layouts.{Layout, frontAt, layoutAt, layoutBody, mirrorAt, mirrorsAt, rows, startAt, startsOf, tailAt, unitFits}
+use Rattle.layout.specs.Layouts.{Layout, flagsAtEnd, frontAt, layoutAt, layoutBody, mirrorAt, mirrorsAt, rows, startAt, startsOf, tailAt, unitFits}
 use Rattle.layout.specs.declared.front_and_tail.Front.{Front}
 use Rattle.layout.specs.declared.front_and_tail.Tail.{Tail}
 use Rattle.layout.proofs.FrontLaws.{front-read}
@@ -80,6 +81,25 @@ accepted-limits s l e =
       servers-few = f .servers-few;
       unit-fits = f .fits;
     })
+
+-- ---- the flags
+
+-- the flags of an accepted body are eight bytes before its end
+pub flags-at-end : (s : List ℕ) (l : Layout) → layoutBody s ≡ accepted l → flagsAtEnd s ≡ l .summary .flags
+unfolding flagsAtEnd tailAt beAt
+flags-at-end s l h =
+    let p = accepted-parts s l h in
+    let f = then-inv _ _ (p .tail) (length s) (p .tail-read) in
+    let t = then-inv _ _ (p .tail) (length s) (pick-inv _ _ 11 (p .tail) (length s) (f .rest) .chosen) in
+    let flags = number-read 4 s (p .p2) (f .item) (f .next) (f .first) in
+    let hint = number-read 4 s (f .next) (t .item) (t .next) (t .first) in
+    let end : t .next ≡ length s = same-offset (t .rest) in
+    let at : length s - 8 ≡ p .p2 = omega (arith, flags .end, hint .end, end) in
+    pick-true _ _ _ (le-leb 8 (length s) (omega (arith, flags .end, hint .end, end)))
+    ∙ (ap (beAt 4 s) at
+    ∙ (pick-true _ _ _ (le-leb (p .p2 + 4) (length s) (omega (arith, flags .end, flags .within)))
+    ∙ (sym (flags .value)
+    ∙ (ap (λ (x : Tail). x .flags) (same-value (t .rest)) ∙ ap (λ (x : Layout). x .summary .flags) (p .whole)))))
 
 -- ---- a place of the table
 

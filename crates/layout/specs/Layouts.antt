@@ -8,6 +8,7 @@ use lib.Dec.{leb, ltb, eqb}
 use Rattle.base.specs.Answer.{Answer, refused, pick}
 use Rattle.base.specs.Limits.{knownFlags, longestBody, mostMirrors, mostServers, mostStarts}
 use Rattle.base.specs.Lists.{padded}
+use Rattle.bytes.specs.Numbers.{beAt}
 use Rattle.xdr.specs.Parsed.{Parsed, ok, fault, then, manyAt, whole}
 use Rattle.xdr.specs.Items.{countAt, numAt}
 use Rattle.server.specs.Servers.{serverAt}
@@ -45,6 +46,14 @@ tailAt s at =
     then (numAt 4 s at) λ flags p1.
     pick (leb flags knownFlags) (then (numAt 4 s p1) λ hint p2. ok (record { flags = flags; hint = hint }) p2)
     (fault 11)
+
+-- where the flags are, counted from the end of a body: "flags (4); statistics hint (4, any)", and nothing may follow
+abbrev pub flagsFromEnd : ℕ
+flagsFromEnd = 8
+
+-- the number there, which in an accepted body is its flags; 0 where there are fewer bytes
+unfoldable pub flagsAtEnd : List ℕ → ℕ
+flagsAtEnd s = pick (leb flagsFromEnd (length s)) (beAt 4 s (length s - flagsFromEnd)) 0
 
 -- 16 entries a mirror: where each of its servers starts, then zeros
 unfoldable pub rows : List (List Server) → List ℕ

@@ -9,7 +9,7 @@ use xdr::ReadU64;
 ghost use mathlib.Core.Path.{_≡_};
 ghost use Rattle.xdr.specs.Parsed.{faultIn};
 ghost use Rattle.base.specs.Refusals.{faultNumber};
-ghost use Rattle.layout.specs.Layouts.{frontAt, tailAt, unitFits};
+ghost use Rattle.layout.specs.Layouts.{flagsAtEnd, frontAt, tailAt, unitFits};
 ghost use Rattle.layout.specs.Answers.{parsedOfFront, parsedOfTail};
 
 // The stripe unit, the mirror count and the first mirror's server count.
@@ -86,6 +86,21 @@ pub(crate) fn read_tail(s: &[u8], c: Cursor) -> ReadTail
         return ReadTail::Refused(xdr::fault_of_u32(h));
     };
     ReadTail::Value(Tail { flags, hint }, c2)
+}
+
+// Where the flags are, counted from the end of a body: "flags (4); statistics hint (4, any)", and nothing may follow.
+const FLAGS_FROM_END: usize = 8;
+
+// The flags of an accepted body, without reading the rest of it. Of any other body it is the number that is there, and
+// 0 where there are fewer bytes.
+pub fn flags_at_end(body: &[u8]) -> u32
+    ensures { λ r. ⌜ r ≡ flagsAtEnd (now (body .entry)) ⌝ }
+{
+    let n = body.len();
+    if n < FLAGS_FROM_END {
+        return 0;
+    }
+    bytes::be4(body, n - FLAGS_FROM_END)
 }
 
 pub(crate) fn fault_of_front(r: ReadFront) -> Fault

@@ -9,4 +9,5 @@ pub use body::LayoutRead;
 pub use body::Summary;
 pub use body::fault_of_layout;
 pub use body::read_layout;
+pub use front_and_tail::flags_at_end;
 pub use start::start_of;

@@ -132,7 +132,7 @@ module _ (write : Bool) (t : Table) (store : List ℕ) (offset len : ℕ) where
     -- ---- by the layout in the piece's slot
     module _ (l : Layout) (h : layoutIn store (p .slot .0) ≡ accepted l) where
       -- that layout serves
-      its-layout : by-parts .serving .layout ≡ l
+      pub its-layout : by-parts .serving .layout ≡ l
       unfolding pieceAt
       its-layout =
           let r = by-parts in

@@ -1,13 +1,13 @@
 -- A byte is served exactly where its rights, with their bodies, say so, and under the body of that right.
 use Prim.Native.Nat.{ℕ}
-use mathlib.Core.Path.{_≡_, refl, sym, ap, _∙_}
-use mathlib.Core.Bool.{Bool, true, false, false≢true}
+use mathlib.Core.Path.{_≡_, refl, sym, ap, ap₂, _∙_}
+use mathlib.Core.Bool.{Bool, true, false}
 use mathlib.Core.List.{List, [], _∷_}
 use Rattle.base.specs.Answer.{Answer, accepted, refused, given, pick}
 use Rattle.base.specs.Ranges.{requestLast}
 use Rattle.base.specs.declared.SlotNumber.{SlotNumber}
 use Rattle.base.specs.declared.iomode.Iomode.{Iomode}
-use Rattle.base.specs.declared.iomode.Iomode.the-variants.{Read, ReadWrite}
+use Rattle.base.specs.declared.iomode.Iomode.the-variants.{ReadWrite}
 use Rattle.layout.specs.Layouts.{Layout}
 use Rattle.segments.specs.declared.Right.{Right}
 use Rattle.segments.specs.declared.Right.the-variants.{None, Granted, Recalled}
@@ -16,16 +16,15 @@ use Rattle.segments.specs.declared.Table.{Table}
 use Rattle.segments.specs.Segments.{Mode, READ, RW, listIn, rightAt, within}
 use Rattle.store.specs.Store.{Slot, bodyIn, slotAt}
 use Rattle.model.specs.Model.{granted, recalled}
-use Rattle.base.specs.Answer.{isAccepted}
 use Rattle.model.specs.SlotsShown.{slotsIn}
 use Rattle.soundness.specs.Sound.{sound}
 use Rattle.model.specs.Claim.{rightIn, underSlot, withBody}
 use Rattle.soundness.proofs.SoundParts.{holding, sounds}
 use Rattle.model.proofs.SlotRights.{Under}
 use Rattle.soundness.proofs.SoundRights.{under-at}
-use Rattle.route.specs.Routes.{Serving, grantAt, grantIn, grantOf, iomodeFor, layoutIn, noReads, orElse, pieceAt, routed, served}
+use Rattle.route.specs.Routes.{Serving, grantAt, grantIn, grantOf, grantWithLayout, iomodeFor, layoutIn, noReads, orElse, pieceAt, readThroughRw, routed, served}
 use Rattle.route.specs.Rights.{ServedUnder, byGrant, readsByRw, servedByRights, servedOf}
-use Rattle.route.proofs.ServedLaws.{body-accepted}
+use Rattle.route.proofs.ServedLaws.{given-or-else, layout-of}
 
 -- ---- a grant at a byte
 
@@ -72,42 +71,44 @@ module _ (t : Table) (store : List ℕ) (s : sound t store ≡ true) where
 
   -- ---- what serves
 
+  -- what a grant serves under: its iomode, and the body in its slot
+  abbrev servedBy : Serving → ServedUnder
+  servedBy v = record { iomode = v .grant .iomode; body = bodyIn (slotAt store (v .grant .slot)) }
+
   abbrev under : Serving → Answer ServedUnder
-  under v = accepted (record { iomode = v .grant .iomode; body = bodyIn (slotAt store (v .grant .slot)) })
+  under v = accepted (servedBy v)
 
-  -- the layout under which a byte is granted
-  layout-read : (m : Mode) (x slot last : ℕ) → grantAt t m x ≡ accepted (record { iomode = iomodeFor m; slot = slot; last = last })
-      → (l : Layout) × (layoutIn store slot ≡ accepted l)
-  layout-read m x slot last e = go (layoutIn store slot) refl (body-accepted t store s m x _ e)
+  granted-by-right : (m : Mode) (x : ℕ) → given (grantWithLayout t m store x) under ≡ byGrant (iomodeFor m) (rightIn t store m x)
+  unfolding grantWithLayout given
+  granted-by-right m x = go (seen m x)
     where
-      go : (a : Answer Layout) → layoutIn store slot ≡ a → isAccepted a ≡ true → (l : Layout) × (layoutIn store slot ≡ accepted l)
-      go (accepted l) e h = (l, e)
-      go (refused n) e h = absurd (false≢true h)
+      go : Seen m x → given (grantWithLayout t m store x) under ≡ byGrant (iomodeFor m) (rightIn t store m x)
+      go (by-grant i last e r) = let l = layout-of t store s m x _ e in rw (e, l .1, r)
+      go (without e r) = rw (e, r (iomodeFor m))
 
-  served-by-rights : (write : Bool) (x : ℕ) → given (served write t store x) under ≡ servedByRights write (rightIn t store READ x) (rightIn t store RW x)
-  unfolding served readsByRw layoutIn given pick
-  served-by-rights true x = go (seen RW x)
-    where
-      go : Seen RW x → given (served true t store x) under ≡ byGrant ReadWrite (rightIn t store RW x)
-      go (by-grant i last e r) = let l = layout-read RW x i last e in rw (e, l .1, r)
-      go (without e r) = rw (e, r ReadWrite)
-  served-by-rights false x = go (seen READ x) (seen RW x)
+  read-by-right : (x : ℕ) → given (readThroughRw t store x) under ≡ readsByRw (rightIn t store RW x)
+  unfolding grantWithLayout readThroughRw readsByRw layoutIn given pick
+  read-by-right x = go (seen RW x)
     where
       flag : (b : Bool) (v : Serving) → given (pick b (refused 17) (accepted v)) under ≡ pick b (refused 17) (under v)
       flag true v = refl
       flag false v = refl
 
       read : (slot last : ℕ) (a : Answer Layout)
-          → given (given a λ l. pick (noReads (l .summary .flags)) (refused 17) (accepted (record { grant = record { iomode = ReadWrite; slot = slot; last = last }; layout = l }))) under
+          → given (given (given a λ l. accepted (record { grant = record { iomode = ReadWrite; slot = slot; last = last }; layout = l })) λ v. pick (noReads (v .layout .summary .flags)) (refused 17) (accepted v)) under
           ≡ given a (λ l. pick (noReads (l .summary .flags)) (refused 17) (accepted (record { iomode = ReadWrite; body = bodyIn (slotAt store slot) })))
       read slot last (accepted l) = flag (noReads (l .summary .flags)) (record { grant = record { iomode = ReadWrite; slot = slot; last = last }; layout = l })
       read slot last (refused n) = refl
 
-      go : Seen READ x → Seen RW x
-          → given (served false t store x) under ≡ orElse (byGrant Read (rightIn t store READ x)) (readsByRw (rightIn t store RW x))
-      go (by-grant i last e r) w = let l = layout-read READ x i last e in rw (e, l .1, r)
-      go (without e r) (by-grant i last f q) = rw (e, r Read, f, q) (read i last (layoutIn store i))
-      go (without e r) (without f q) = rw (e, r Read, f, q ReadWrite)
+      go : Seen RW x → given (readThroughRw t store x) under ≡ readsByRw (rightIn t store RW x)
+      go (by-grant i last e r) = rw (e, r) (read i last (layoutIn store i))
+      go (without e r) = rw (e, r ReadWrite)
+
+  served-by-rights : (write : Bool) (x : ℕ) → given (served write t store x) under ≡ servedByRights write (rightIn t store READ x) (rightIn t store RW x)
+  unfolding served
+  served-by-rights true x = granted-by-right RW x
+  served-by-rights false x =
+      given-or-else (readThroughRw t store x) (grantWithLayout t READ store x) servedBy ∙ ap₂ orElse (read-by-right x) (granted-by-right READ x)
 
   -- ---- the answer
 

@@ -8,15 +8,17 @@ use Rattle.base.specs.Answer.{Answer, accepted, refused, given, pick}
 use Rattle.base.specs.declared.StripeNumber.{StripeNumber}
 use Rattle.base.specs.declared.iomode.Iomode.{Iomode}
 use Rattle.base.specs.Ranges.{requestLast}
-use Rattle.layout.specs.Layouts.{Layout}
+use Rattle.base.proofs.AnswerLaws.{pick-false, pick-true}
+use Rattle.layout.specs.Layouts.{flagsAtEnd}
 use Rattle.segments.specs.declared.Segment.{Segment}
 use Rattle.segments.specs.declared.Segments.{Segments}
 use Rattle.segments.specs.declared.Table.{Table}
-use Rattle.segments.specs.Segments.{READ, RW, listOf, within}
+use Rattle.segments.specs.Segments.{listOf, within}
 use Rattle.lookup.proofs.LookupLaws.{next-segment}
 use Rattle.store.specs.Store.{bodyIn, slotAt}
 use Rattle.soundness.specs.Sound.{sound}
-use Rattle.route.specs.Routes.{Grant, Serving, grantAt, grantIn, grantOf, isBarred, layoutIn, mirrorsNamed, orElse, pieceAt, routed, served, servingGrant}
+use Rattle.route.specs.Routes.{Grant, Serving, grantIn, grantOf, mirrorsNamed, noReads, pieceAt, routed, served}
+use Rattle.route.specs.Answers.{grantForReads}
 use Rattle.route.specs.Stripes.{pieceLength, stripeOf}
 use Rattle.route.specs.declared.piece.Piece.{Piece}
 
@@ -35,32 +37,21 @@ module _ (m : Iomode) (x : ℕ) (g : Segments) (k : ℕ) where
   unfolding grantIn
   grant-none h = ap (λ (l : List Segment). grantIn m l x) (drop-of-length-le (listOf g) h)
 
--- ---- what serves
+-- ---- a grant of RW that serves reads
 
-module _ (write : Bool) (t : Table) (x : ℕ) where
-  -- READ is asked first for a read
-  pub read-serves : (g : Grant) → write ≡ false → grantAt t READ x ≡ accepted g → servingGrant write t x ≡ accepted g
-  read-serves g h e = rw h (ap (λ (a : Answer Grant). orElse a (grantAt t RW x)) e)
+module _ (store : List ℕ) (a : Answer Grant) where
+  pub no-grant-for-reads : (n : ℕ) → a ≡ refused n → grantForReads store a ≡ refused n
+  unfolding grantForReads given
+  no-grant-for-reads n e = rw e
 
-  pub read-is-missing : (n : ℕ) → write ≡ false → grantAt t READ x ≡ refused n → servingGrant write t x ≡ grantAt t RW x
-  read-is-missing n h e = rw h (ap (λ (a : Answer Grant). orElse a (grantAt t RW x)) e)
+  module _ (g : Grant) (e : a ≡ accepted g) where
+    pub with-flag-4 : noReads (flagsAtEnd (bodyIn (slotAt store (g .slot)))) ≡ true → grantForReads store a ≡ refused 17
+    unfolding grantForReads given
+    with-flag-4 h = rw e (pick-true _ _ _ h)
 
-  pub rw-alone : write ≡ true → servingGrant write t x ≡ grantAt t RW x
-  rw-alone h = rw h
-
-  module _ (store : List ℕ) where
-    pub not-granted : (n : ℕ) → servingGrant write t x ≡ refused n → served write t store x ≡ refused n
-    unfolding served given
-    not-granted n e = rw e
-
-    module _ (g : Grant) (l : Layout) (e : servingGrant write t x ≡ accepted g) (f : layoutIn store (g .slot) ≡ accepted l) where
-      pub barred : isBarred write (g .iomode) (l .summary .flags) ≡ true → served write t store x ≡ refused 17
-      unfolding served given pick
-      barred h = rw (e, f, h)
-
-      pub not-barred : isBarred write (g .iomode) (l .summary .flags) ≡ false → served write t store x ≡ accepted (record { grant = g; layout = l })
-      unfolding served given pick
-      not-barred h = rw (e, f, h)
+    pub without-flag-4 : noReads (flagsAtEnd (bodyIn (slotAt store (g .slot)))) ≡ false → grantForReads store a ≡ accepted g
+    unfolding grantForReads given
+    without-flag-4 h = rw e (pick-false _ _ _ h)
 
 -- ---- the answer
 

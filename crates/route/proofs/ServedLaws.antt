@@ -10,10 +10,9 @@ use lib.ListN.{length, getD}
 use Rattle.base.specs.Answer.{Answer, accepted, refused, given, pick}
 use Rattle.base.specs.Ranges.{largestSum, requestLast}
 use Rattle.base.specs.declared.iomode.Iomode.{Iomode}
-use Rattle.base.specs.declared.iomode.Iomode.the-variants.{ReadWrite}
-use Rattle.base.proofs.AnswerLaws.{both, given-inv, never-accepted, never-refused, same-answer, same-refusal}
+use Rattle.base.proofs.AnswerLaws.{both, given-inv, never-accepted, never-refused, pick-not-refused, same-answer, same-refusal}
 use Rattle.layout.specs.Layouts.{Layout, unitFits}
-use Rattle.layout.proofs.LayoutLaws.{accepted-limits}
+use Rattle.layout.proofs.LayoutLaws.{accepted-limits, flags-at-end}
 use Rattle.segments.specs.declared.Right.{Right}
 use Rattle.segments.specs.declared.Right.the-variants.{None, Granted, Recalled}
 use Rattle.segments.specs.declared.Segment.{Segment}
@@ -23,9 +22,9 @@ use Rattle.store.specs.Store.{bodyIn, slotAt}
 use Rattle.base.specs.Answer.{isAccepted}
 use Rattle.soundness.specs.Sound.{hasSlot, inOrder, sound}
 use Rattle.soundness.proofs.SoundParts.{in-order, listed, named-in, named-sound, sounds}
-use Rattle.route.specs.Answers.{slotAsked}
+use Rattle.route.specs.Answers.{servingGrant, slotAsked, grantForReads}
 use Rattle.soundness.specs.Validations.{layoutIfSound, layoutNamed}
-use Rattle.route.specs.Routes.{Grant, Serving, grantAt, grantIn, grantOf, iomodeFor, isBarred, layoutIn, orElse, served, servingGrant}
+use Rattle.route.specs.Routes.{Grant, Serving, grantAt, grantIn, grantOf, grantWithLayout, iomodeFor, layoutIn, noReads, orElse, readThroughRw, served}
 
 -- ---- a granted byte
 
@@ -101,30 +100,14 @@ grant-refused m (s ∷ l) x n e = go (within (s .first) (s .last) x) e (grant-re
 
 -- ---- what serves
 
--- a grant that serves is one of an iomode, and of RW for a write
-pub record Chosen (write : Bool) (t : Table) (x : ℕ) (g : Grant) : Type 0 where
-  pub mode : Mode
-  pub grant : grantAt t mode x ≡ accepted g
-  pub in-rw : write ≡ true → mode ≡ RW
+-- what is taken out of the first of two, or else of the second
+pub given-or-else : {A B : Type 0} (a b : Answer A) (f : A → B)
+    → given (orElse a b) (λ v. accepted (f v)) ≡ orElse (given a (λ v. accepted (f v))) (given b (λ v. accepted (f v)))
+unfolding given
+given-or-else (accepted v) b f = refl
+given-or-else (refused n) b f = refl
 
-module _ (t : Table) (x : ℕ) where
-  pub what-is-chosen : (write : Bool) (g : Grant) → servingGrant write t x ≡ accepted g → Chosen write t x g
-  what-is-chosen true g e = record { mode = RW; grant = e; in-rw = λ w. refl }
-  what-is-chosen false g e = go (grantAt t READ x) refl e
-    where
-      go : (a : Answer Grant) → grantAt t READ x ≡ a → orElse a (grantAt t RW x) ≡ accepted g → Chosen false t x g
-      go (accepted h) f k = record { mode = READ; grant = f ∙ k; in-rw = λ w. absurd (false≢true w) }
-      go (refused n) f k = record { mode = RW; grant = k; in-rw = λ w. refl }
-
-  -- where nothing serves it is 17
-  pub none-chosen : (write : Bool) (n : ℕ) → servingGrant write t x ≡ refused n → n ≡ 17
-  none-chosen true n e = grant-refused ReadWrite (listIn t RW) x n e
-  none-chosen false n e = go (grantAt t READ x) e
-    where
-      go : (a : Answer Grant) → orElse a (grantAt t RW x) ≡ refused n → n ≡ 17
-      go (accepted h) k = never-refused h n k
-      go (refused j) k = grant-refused ReadWrite (listIn t RW) x n k
-
+-- what serves is a grant of an iomode, with the layout body in its slot; for a write that iomode is RW
 pub record Serves (write : Bool) (t : Table) (store : List ℕ) (x : ℕ) (v : Serving) : Type 0 where
   pub mode : Mode
   pub iomode : v .grant .iomode ≡ iomodeFor mode
@@ -132,27 +115,50 @@ pub record Serves (write : Bool) (t : Table) (store : List ℕ) (x : ℕ) (v : S
   pub layout : layoutIn store (v .grant .slot) ≡ accepted (v .layout)
   pub in-rw : write ≡ true → mode ≡ RW
 
-pub what-serves : (t : Table) (store : List ℕ) (x : ℕ) (write : Bool) (v : Serving) → served write t store x ≡ accepted v → Serves write t store x v
-unfolding served pick
-what-serves t store x write v h =
-    let r = given-inv _ _ v h in
-    let q = given-inv _ _ v (r .rest) in
-    go (r .value) (r .first) (q .value) (q .first) (isBarred write (r .value .iomode) (q .value .summary .flags)) (q .rest)
-  where
-    go : (g : Grant) → servingGrant write t x ≡ accepted g → (l : Layout) → layoutIn store (g .slot) ≡ accepted l → (b : Bool)
-        → pick b (refused 17) (accepted (record { grant = g; layout = l })) ≡ accepted v → Serves write t store x v
-    go g e l f true k = never-accepted 17 v k
-    go g e l f false k =
-        let w : record { grant = g; layout = l } ≡ v = same-answer k in
-        let c = what-is-chosen t x write g e in
-        let i = grant-found (iomodeFor (c .mode)) (listIn t (c .mode)) x g (c .grant) .iomode in
-        record {
-          mode = c .mode;
-          iomode = ap (λ (u : Serving). u .grant .iomode) (sym w) ∙ i;
-          grant = c .grant ∙ ap (λ (u : Serving). accepted (u .grant)) w;
-          layout = ap (λ (u : Serving). layoutIn store (u .grant .slot)) (sym w) ∙ (f ∙ ap (λ (u : Serving). accepted (u .layout)) w);
-          in-rw = c .in-rw;
-        }
+module _ (t : Table) (store : List ℕ) (x : ℕ) where
+  by-iomode : (write : Bool) (m : Mode) (v : Serving) → (write ≡ true → m ≡ RW) → grantWithLayout t m store x ≡ accepted v → Serves write t store x v
+  unfolding grantWithLayout
+  by-iomode write m v w e =
+      let r = given-inv _ _ v e in
+      let q = given-inv _ _ v (r .rest) in
+      let k : record { grant = r .value; layout = q .value } ≡ v = same-answer (q .rest) in
+      record {
+        mode = m;
+        iomode = ap (λ (u : Serving). u .grant .iomode) (sym k) ∙ grant-found (iomodeFor m) (listIn t m) x (r .value) (r .first) .iomode;
+        grant = r .first ∙ ap (λ (u : Serving). accepted (u .grant)) k;
+        layout = ap (λ (u : Serving). layoutIn store (u .grant .slot)) (sym k) ∙ (q .first ∙ ap (λ (u : Serving). accepted (u .layout)) k);
+        in-rw = w;
+      }
+
+  -- what serves a read through RW is RW's grant
+  through-rw : (v : Serving) → readThroughRw t store x ≡ accepted v → grantWithLayout t RW store x ≡ accepted v
+  unfolding readThroughRw
+  through-rw v e =
+      let r = given-inv _ _ v e in
+      r .first ∙ pick-not-refused _ 17 (accepted (r .value)) v (r .rest) .1
+
+  pub what-serves : (write : Bool) (v : Serving) → served write t store x ≡ accepted v → Serves write t store x v
+  unfolding served
+  what-serves true v e = by-iomode true RW v (λ w. refl) e
+  what-serves false v e = go (readThroughRw t store x) refl e
+    where
+      go : (a : Answer Serving) → readThroughRw t store x ≡ a → orElse a (grantWithLayout t READ store x) ≡ accepted v → Serves false t store x v
+      go (accepted u) f k = by-iomode false RW v (λ w. refl) (through-rw v (f ∙ k))
+      go (refused n) f k = by-iomode false READ v (λ w. absurd (false≢true w)) k
+
+  -- what serves a write serves a read too, where its layout has no flag 4
+  pub read-as-write : (v : Serving) → served true t store x ≡ accepted v → noReads (v .layout .summary .flags) ≡ false → served false t store x ≡ accepted v
+  unfolding served readThroughRw given pick
+  read-as-write v e h = rw (e, h)
+
+  -- where no grant serves, nothing does
+  pub no-grant-serves : (write : Bool) (n : ℕ) → servingGrant write t store x ≡ refused n → served write t store x ≡ refused n
+  unfolding given
+  no-grant-serves write n e = go (served write t store x) e
+    where
+      go : (a : Answer Serving) → given a (λ v. accepted (v .grant)) ≡ refused n → a ≡ refused n
+      go (accepted v) k = never-refused (v .grant) n k
+      go (refused j) k = ap refused (same-refusal {A = Grant} j n k)
 
 -- ---- limits
 
@@ -229,34 +235,87 @@ module _ (t : Table) (store : List ℕ) (s : sound t store ≡ true) where
   unfolding layoutIfSound layoutNamed layoutIn pick
   body-if-sound m x g e = let n = slot-named m x g e in rw (s, lt-ltb (g .slot) 8 (n .0), n .1)
 
-  -- what is read for the grant that serves is the layout in its slot, and it is accepted
-  pub body-asked : (write : Bool) (x : ℕ) (g : Grant) (i : ℕ) → servingGrant write t x ≡ accepted g → i ≡ slotAsked (servingGrant write t x)
-      → layoutIfSound t store i ≡ layoutIn store (g .slot)
-  body-asked write x g i e f =
-      let c = what-is-chosen t x write g e in
-      ap (λ (j : ℕ). layoutIfSound t store j) (f ∙ ap slotAsked e) ∙ body-if-sound (c .mode) x g (c .grant)
+  -- the grant that serves: its layout is the one in its slot, which is what the validation reads where it is asked for that slot
+  module _ (write : Bool) (x : ℕ) (g : Grant) (i : ℕ) (e : servingGrant write t store x ≡ accepted g) (f : i ≡ slotAsked (servingGrant write t store x)) where
+    its-serving : (v : Serving) × (served write t store x ≡ accepted v) × (v .grant ≡ g)
+    its-serving = let r = given-inv _ _ g e in (r .value, r .first, same-answer (r .rest))
 
-  pub body-not-refused : (write : Bool) (x : ℕ) (g : Grant) (n : ℕ) → servingGrant write t x ≡ accepted g → layoutIn store (g .slot) ≡ refused n → ⊥
-  body-not-refused write x g n e f =
-      let c = what-is-chosen t x write g e in
-      false≢true (ap isAccepted (sym f) ∙ body-accepted (c .mode) x g (c .grant))
+    layout-asked : (v : Serving) → served write t store x ≡ accepted v → v .grant ≡ g → layoutIfSound t store i ≡ accepted (v .layout)
+    layout-asked v h k =
+        let w = what-serves t store x write v h in
+        ap (λ (j : ℕ). layoutIfSound t store j) (f ∙ ap slotAsked e ∙ ap (λ (h : Grant). h .slot) (sym k))
+        ∙ (body-if-sound (w .mode) x (v .grant) (w .grant) ∙ w .layout)
+
+    pub layout-read-serves : (l : Layout) → layoutIfSound t store i ≡ accepted l → served write t store x ≡ accepted (record { grant = g; layout = l })
+    layout-read-serves l h =
+        let r = its-serving in
+        let k : r .0 .layout ≡ l = same-answer (sym (layout-asked (r .0) (r .1) (r .2)) ∙ h) in
+        r .1 ∙ (λ j. accepted (record { grant = r .2 j; layout = k j }))
+
+    pub layout-not-refused : (n : ℕ) → layoutIfSound t store i ≡ refused n → ⊥
+    layout-not-refused n h =
+        let r = its-serving in
+        never-accepted n (r .0 .layout) (sym h ∙ layout-asked (r .0) (r .1) (r .2))
+
+  -- ---- the grants alone
+
+  -- the layout body under which a byte is granted
+  pub layout-of : (m : Mode) (x : ℕ) (g : Grant) → grantAt t m x ≡ accepted g → (l : Layout) × (layoutIn store (g .slot) ≡ accepted l)
+  layout-of m x g e = go (layoutIn store (g .slot)) refl (body-accepted m x g e)
+    where
+      go : (a : Answer Layout) → layoutIn store (g .slot) ≡ a → isAccepted a ≡ true → (l : Layout) × (layoutIn store (g .slot) ≡ accepted l)
+      go (accepted l) f h = (l, f)
+      go (refused n) f h = absurd (false≢true h)
+
+  -- a grant always has its layout
+  grant-alone : (m : Mode) (x : ℕ) → given (grantWithLayout t m store x) (λ v. accepted (v .grant)) ≡ grantAt t m x
+  unfolding grantWithLayout given
+  grant-alone m x = go (grantAt t m x) refl
+    where
+      go : (a : Answer Grant) → grantAt t m x ≡ a → given (grantWithLayout t m store x) (λ v. accepted (v .grant)) ≡ a
+      go (accepted g) e = rw (e, layout-of m x g e .1)
+      go (refused n) e = rw e
+
+  -- the flags that its reader reads are those at its end
+  rw-alone : (x : ℕ) → given (readThroughRw t store x) (λ v. accepted (v .grant)) ≡ grantForReads store (grantAt t RW x)
+  unfolding readThroughRw grantWithLayout grantForReads layoutIn given pick
+  rw-alone x = go (grantAt t RW x) refl
+    where
+      flag : (b : Bool) (v : Serving) → given {B = Grant} (pick b (refused 17) (accepted v)) (λ v. accepted (v .grant)) ≡ pick b (refused 17) (accepted (v .grant))
+      flag true v = refl
+      flag false v = refl
+
+      go : (a : Answer Grant) → grantAt t RW x ≡ a → given (readThroughRw t store x) (λ v. accepted (v .grant)) ≡ grantForReads store a
+      go (accepted g) e =
+          let l = layout-of RW x g e in
+          let k = flags-at-end (bodyIn (slotAt store (g .slot))) (l .0) (l .1) in
+          rw (e, l .1, k) (flag (noReads (l .0 .summary .flags)) (record { grant = g; layout = l .0 }))
+      go (refused n) e = rw e
+
+  -- a write is served by the grant of RW
+  pub write-grant : (write : Bool) (x : ℕ) → write ≡ true → servingGrant write t store x ≡ grantAt t RW x
+  unfolding served
+  write-grant write x h = rw h (grant-alone RW x)
+
+  -- and a read by the grant of RW, unless flag 4 is at the end of its body, else by that of READ
+  pub read-grant : (write : Bool) (x : ℕ) → write ≡ false → servingGrant write t store x ≡ orElse (grantForReads store (grantAt t RW x)) (grantAt t READ x)
+  unfolding served
+  read-grant write x h =
+      rw (h, ← rw-alone x, ← grant-alone READ x) (given-or-else (readThroughRw t store x) (grantWithLayout t READ store x) (λ v. v .grant))
+
+  -- ---- refusals
+
+  with-layout-refused : (m : Mode) (x n : ℕ) → grantWithLayout t m store x ≡ refused n → n ≡ 17
+  unfolding given
+  with-layout-refused m x n h =
+      grant-refused (iomodeFor m) (listIn t m) x n (sym (grant-alone m x) ∙ ap (λ (a : Answer Serving). given a (λ v. accepted (v .grant))) h)
 
   -- a request that is not served is refused with 17
   pub served-refused : (write : Bool) (x n : ℕ) → served write t store x ≡ refused n → n ≡ 17
-  unfolding served given pick
-  served-refused write x n h = first (servingGrant write t x) refl h
+  unfolding served
+  served-refused true x n h = with-layout-refused RW x n h
+  served-refused false x n h = go (readThroughRw t store x) h
     where
-      third : (g : Grant) (l : Layout) (b : Bool) → pick {A = Answer Serving} b (refused 17) (accepted (record { grant = g; layout = l })) ≡ refused n → n ≡ 17
-      third g l true k = sym (same-refusal {A = Serving} 17 n k)
-      third g l false k = never-refused (record { grant = g; layout = l }) n k
-
-      second : (g : Grant) (a : Answer Layout) → isAccepted a ≡ true
-          → given {B = Serving} a (λ l. pick (isBarred write (g .iomode) (l .summary .flags)) (refused 17) (accepted (record { grant = g; layout = l }))) ≡ refused n → n ≡ 17
-      second g (accepted l) p k = third g l (isBarred write (g .iomode) (l .summary .flags)) k
-      second g (refused j) p k = absurd (false≢true p)
-
-      first : (a : Answer Grant) → servingGrant write t x ≡ a
-          → given {B = Serving} a (λ g. given (layoutIn store (g .slot)) λ l. pick (isBarred write (g .iomode) (l .summary .flags)) (refused 17) (accepted (record { grant = g; layout = l }))) ≡ refused n
-          → n ≡ 17
-      first (accepted g) e k = let c = what-is-chosen t x write g e in second g (layoutIn store (g .slot)) (body-accepted (c .mode) x g (c .grant)) k
-      first (refused j) e k = sym (same-refusal {A = Serving} j n k) ∙ none-chosen t x write j e
+      go : (a : Answer Serving) → orElse a (grantWithLayout t READ store x) ≡ refused n → n ≡ 17
+      go (accepted v) k = never-refused v n k
+      go (refused j) k = with-layout-refused READ x n k

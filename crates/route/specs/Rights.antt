@@ -31,10 +31,11 @@ readsByRw rw =
     pick (noReads (l .summary .flags)) (refused 17) (accepted v)
 
 -- "A write needs RW granted. A read needs READ granted, or RW granted under a body without flag 4; where both serve
--- at its first byte, READ is used." read, rw: the byte's rights in the two iomodes
+-- at its first byte, RW is used." (C-11)
+-- read, rw: the byte's rights in the two iomodes
 abbrev pub servedByRights : Bool → ByteRight → ByteRight → Answer ServedUnder
 servedByRights true read rw = byGrant ReadWrite rw
-servedByRights false read rw = orElse (byGrant Read read) (readsByRw rw)
+servedByRights false read rw = orElse (readsByRw rw) (byGrant Read read)
 
 -- what an answered piece is served under: its iomode, and the body in its slot
 abbrev pub servedOf : List ℕ → Piece → ServedUnder

@@ -7,7 +7,7 @@ use Rattle.base.specs.Answer.{Answer, accepted, refused, given, pick}
 use Rattle.base.specs.Bits.{bit}
 use Rattle.base.specs.Ranges.{requestLast}
 use Rattle.base.specs.declared.iomode.Iomode.{Iomode}
-use Rattle.base.specs.declared.iomode.Iomode.the-variants.{Read, ReadWrite, Any}
+use Rattle.base.specs.declared.iomode.Iomode.the-variants.{Read, ReadWrite}
 use Rattle.layout.specs.Layouts.{Layout, layoutBody}
 use Rattle.segments.specs.declared.Right.{Right}
 use Rattle.segments.specs.declared.Right.the-variants.{None, Granted, Recalled}
@@ -54,12 +54,6 @@ abbrev pub orElse : {A : Type 0} → Answer A → Answer A → Answer A
 orElse (accepted a) next = accepted a
 orElse (refused n) next = next
 
--- "A write needs RW granted. A read needs READ granted, or RW granted ..; where both serve at its first byte, READ is
--- used."
-abbrev pub servingGrant : Bool → Table → ℕ → Answer Grant
-servingGrant true t x = grantAt t RW x
-servingGrant false t x = orElse (grantAt t READ x) (grantAt t RW x)
-
 -- flag 4, the bit of that value: "no reads on a read-write layout"; flag 8: "write one mirror"
 abbrev pub noReads : ℕ → Bool
 noReads flags = bit 4 flags
@@ -67,27 +61,33 @@ noReads flags = bit 4 flags
 abbrev pub oneMirror : ℕ → Bool
 oneMirror flags = bit 8 flags
 
--- "A read needs .. RW granted under a body without flag 4": whether the flags of its body keep a grant from serving
-abbrev pub isBarred : Bool → Iomode → ℕ → Bool
-isBarred true iomode flags = false
-isBarred false Read flags = false
-isBarred false ReadWrite flags = noReads flags
-isBarred false Any flags = false
-
 -- the layout body in a slot
 unfoldable pub layoutIn : List ℕ → ℕ → Answer Layout
 layoutIn store slot = layoutBody (bodyIn (slotAt store slot))
 
--- the grant that serves a request, and the layout under which it does
+-- a grant that serves a request, and the layout under which it does
 pub record Serving : Type 0 where
   pub grant : Grant
   pub layout : Layout
 
-unfoldable pub served : Bool → Table → List ℕ → ℕ → Answer Serving
-served write t store x =
-    given (servingGrant write t x) λ g.
+-- the grant of an iomode at a byte, with the layout body in its slot
+unfoldable pub grantWithLayout : Table → Mode → List ℕ → ℕ → Answer Serving
+grantWithLayout t m store x =
+    given (grantAt t m x) λ g.
     given (layoutIn store (g .slot)) λ l.
-    pick (isBarred write (g .iomode) (l .summary .flags)) (refused 17) (accepted (record { grant = g; layout = l }))
+    accepted (record { grant = g; layout = l })
+
+-- ".. RW granted under a body without flag 4"
+unfoldable pub readThroughRw : Table → List ℕ → ℕ → Answer Serving
+readThroughRw t store x =
+    given (grantWithLayout t RW store x) λ v.
+    pick (noReads (v .layout .summary .flags)) (refused 17) (accepted v)
+
+-- "A write needs RW granted. A read needs READ granted, or RW granted under a body without flag 4; where both serve
+-- at its first byte, RW is used." (C-11)
+unfoldable pub served : Bool → Table → List ℕ → ℕ → Answer Serving
+served true t store x = grantWithLayout t RW store x
+served false t store x = orElse (readThroughRw t store x) (grantWithLayout t READ store x)
 
 -- ---- the answer
 

@@ -4,7 +4,6 @@ use crate::piece::Located;
 use crate::piece::Piece;
 use crate::rights::Grant;
 use crate::rights::GrantAnswer;
-use crate::rights::is_barred;
 use crate::rights::serving_grant;
 use crate::rights::slot_asked;
 use crate::stripes::piece_length;
@@ -62,7 +61,7 @@ fn piece_at(write: bool, store: &[u8], offset: u64, len: u64, v: Serving) -> Pie
 pub fn locate(t: Table, store: &[u8], write: bool, offset: u64, len: u64) -> Located
     ensures { λ r. ⌜ answerOfLocated r ≡ routed write t (now (store .entry)) offset len ⌝ }
 {
-    let h = serving_grant(write, t, offset);
+    let h = serving_grant(write, t, store, offset);
     let j = soundness::validate_and_read(t, store, slot_asked(h));
     if !j.sound {
         return Located::Refused(Refusal::Unsound);
@@ -79,10 +78,6 @@ pub fn locate(t: Table, store: &[u8], write: bool, offset: u64, len: u64) -> Loc
     let LayoutAnswer::Value(summary) = a else {
         return Located::Refused(Refusal::RightMissing);
     };
-    let iomode = grant.iomode;
-    if is_barred(write, iomode, summary.flags) {
-        return Located::Refused(Refusal::RightMissing);
-    }
     let starts = read.starts;
     let v = Serving {
         grant,

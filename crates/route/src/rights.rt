@@ -7,9 +7,11 @@ use segments::Segment;
 use segments::Segments;
 use segments::Table;
 ghost use mathlib.Core.Path.{_≡_};
+ghost use mathlib.Core.Bool.{true};
 ghost use Rattle.segments.specs.Segments.{listOf, within};
-ghost use Rattle.route.specs.Answers.{answerOfGrant, slotAsked};
-ghost use Rattle.route.specs.Routes.{grantIn, grantOf, isBarred, servingGrant};
+ghost use Rattle.soundness.specs.Sound.{sound};
+ghost use Rattle.route.specs.Answers.{answerOfGrant, servingGrant, slotAsked, grantForReads};
+ghost use Rattle.route.specs.Routes.{grantIn, grantOf};
 
 // A granted segment: its iomode, the slot of its body, and its last byte.
 pub struct Grant {
@@ -62,20 +64,41 @@ fn grant_in(iomode: Iomode, g: Segments, x: u64) -> GrantAnswer
     GrantAnswer::Missing
 }
 
-// "A write needs RW granted. A read needs READ granted, or RW granted ..; where both serve at its first byte, READ is
-// used."
-pub(crate) fn serving_grant(write: bool, t: Table, x: u64) -> GrantAnswer
-    ensures { λ r. ⌜ answerOfGrant r ≡ servingGrant write t x ⌝ }
+// ".. RW granted under a body without flag 4": a grant of RW, where it serves reads. The flag is read near the body's
+// end, before table and store are validated, so that the validation is asked for the one body that serves, and no body
+// is read twice.
+fn grant_for_reads(store: &[u8], h: GrantAnswer) -> GrantAnswer
+    ensures { λ r. ⌜ answerOfGrant r ≡ grantForReads (now (store .entry)) (answerOfGrant h) ⌝ }
 {
-    if !write {
-        let read = t.read;
-        let h = grant_in(Iomode::Read, read, x);
-        if let GrantAnswer::Value(_) = h {
-            return h;
-        }
+    let GrantAnswer::Value(g) = h else {
+        return GrantAnswer::Missing;
+    };
+    let slot = g.slot;
+    let flags = layout::flags_at_end(store::slot_body(store::slot_bytes(store, slot)));
+    if base::has_bit(flags, 4) {
+        return GrantAnswer::Missing;
     }
+    GrantAnswer::Value(g)
+}
+
+// "A write needs RW granted. A read needs READ granted, or RW granted under a body without flag 4; where both serve at
+// its first byte, RW is used." (C-11) Of an unsound table or store it may be any grant: the request is then refused
+// with 20.
+pub(crate) fn serving_grant(write: bool, t: Table, store: &[u8], x: u64) -> GrantAnswer
+    ensures { λ r. ⌜ (sound t (now (store .entry)) ≡ true
+        → answerOfGrant r ≡ servingGrant write t (now (store .entry)) x) ⌝ }
+{
     let rw = t.rw;
-    grant_in(Iomode::ReadWrite, rw, x)
+    let h = grant_in(Iomode::ReadWrite, rw, x);
+    if write {
+        return h;
+    }
+    let g = grant_for_reads(store, h);
+    if let GrantAnswer::Value(_) = g {
+        return g;
+    }
+    let read = t.read;
+    grant_in(Iomode::Read, read, x)
 }
 
 // The slot whose body is to be read: the grant's, and 0 where there is none.
@@ -85,19 +108,5 @@ pub(crate) fn slot_asked(h: GrantAnswer) -> SlotNumber
     match h {
         GrantAnswer::Value(g) => g.slot,
         GrantAnswer::Missing => SlotNumber(0),
-    }
-}
-
-// ".. or RW granted under a body without flag 4": whether the flags of its body keep a grant from serving.
-pub(crate) fn is_barred(write: bool, iomode: Iomode, flags: u32) -> bool
-    ensures { λ r. ⌜ r ≡ isBarred write iomode flags ⌝ }
-{
-    if write {
-        return false;
-    }
-    match iomode {
-        Iomode::Read => false,
-        Iomode::ReadWrite => base::has_bit(flags, 4),
-        Iomode::Any => false,
     }
 }

@@ -30,6 +30,25 @@ pub fn aimed_request(random: &mut Random, state: &State) -> IoRequest {
     IoRequest { direction, offset, length: aimed_length(random, &segment, unit, offset) }
 }
 
+/// Some reads of bytes that are held in both iomodes; none where there are no
+/// such bytes.
+pub fn reads_in_both(random: &mut Random, state: &State, most: usize) -> Vec<TableCase> {
+    let [read, rw] = Iomode::BOTH.map(|iomode| state.table.segments(iomode));
+    let pairs = read.iter().flat_map(|one| rw.iter().map(move |other| [*one, *other]));
+    let meeting: Vec<_> = pairs.filter(|[one, other]| one.first <= other.last && other.first <= one.last).collect();
+    let count = if meeting.is_empty() { 0 } else { random.between(1, most) };
+    (0..count).map(|_| TableCase::Locate(read_in_both(random, &meeting))).collect()
+}
+
+/// A read from a byte of two segments, up to the end of one of them or past it.
+fn read_in_both(random: &mut Random, meeting: &[[Segment; 2]]) -> IoRequest {
+    let [one, other] = random.pick(meeting);
+    let (first, last) = (one.first.max(other.first), one.last.min(other.last));
+    let offset = random.pick(&[first, first + (last - first) / 2, last]);
+    let end = random.pick(&[one.last, other.last]);
+    IoRequest::read(offset, (end - offset).saturating_add(random.between(0, 9) as u64))
+}
+
 /// The stripe unit of the body that a segment names, 0 with one server.
 fn unit_of(state: &State, segment: &Segment) -> u64 {
     let slot = segment.right.slot().and_then(|slot| slots(&state.store).nth(slot as usize));

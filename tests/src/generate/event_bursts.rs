@@ -2,7 +2,7 @@
 //! source follows the table that its events make, so that it can aim at the ends
 //! of segments.
 
-use super::aimed_requests::aimed_requests;
+use super::aimed_requests::{aimed_requests, reads_in_both};
 use super::corruptions::corruption_and_repair;
 use super::layout4s::EDGES;
 use super::striped_bodies::striped_body;
@@ -11,10 +11,11 @@ use independent::event::{Event, RangeNumbers};
 use independent::iomode::{Iomode, IOMODE_ANY};
 use independent::range::{ByteRange, LAST_BYTE};
 use independent::samples::bodies::Layout4Head;
-use independent::samples::events::{length_between, small_body};
+use independent::samples::events::{grant, length_between, small_body};
 use independent::samples::random::Random;
 use independent::segments::Segment;
 use independent::state::State;
+use independent::store::{body_in, slots};
 use independent::table_cases::TableCase;
 use independent::table_lines::table_case_line;
 
@@ -22,6 +23,10 @@ use independent::table_lines::table_case_line;
 const STORED_CASES: usize = 2_000;
 /// The most requests for I/O that follow each other.
 const MOST_REQUESTS: usize = 6;
+/// The most grants over segments of the other iomode that follow each other.
+const MOST_GRANTS_OVER: usize = 3;
+/// A reset, the grants and the requests.
+pub const MOST_IN_BOTH: usize = 1 + MOST_GRANTS_OVER + MOST_REQUESTS;
 
 pub fn add(cases: &mut CaseFileWriter) {
     let mut random = Random::new(72);
@@ -97,6 +102,24 @@ impl EventSource {
         cases
     }
 
+    /// Grants over segments of the other iomode, and reads of bytes that are
+    /// then held in both; at most [`MOST_IN_BOTH`] cases.
+    pub fn both_iomodes(&mut self, random: &mut Random) -> Vec<TableCase> {
+        let mut cases = Vec::new();
+        if !self.state.is_sound() {
+            self.state = State::default();
+            cases.push(TableCase::Reset);
+        }
+        for _ in 0..random.between(1, MOST_GRANTS_OVER) {
+            let event = self.grant_over(random);
+            // A refused one leaves the state as it is.
+            let _ = self.state.apply(&event);
+            cases.push(TableCase::Event(event));
+        }
+        cases.extend(reads_in_both(random, &self.state, MOST_REQUESTS));
+        cases
+    }
+
     /// The next event, and the table and the store it leaves; or some requests
     /// for I/O; or corruptions with the calls that find them.
     fn next_cases(&mut self, random: &mut Random) -> Vec<TableCase> {
@@ -163,9 +186,39 @@ impl EventSource {
         if random.once_in(50) {
             head.length = random.pick(&EDGES);
         }
-        let number = self.manner.first_body + random.below(self.manner.bodies) as u32;
-        let bytes = head.around(&(self.manner.body_of)(number));
+        let bytes = head.around(&self.body(random));
         Event::Grant(if random.once_in(30) { random.one_byte_changed(&bytes) } else { bytes })
+    }
+
+    /// A grant that meets a segment of the other iomode; where there is no
+    /// segment yet, one to be met.
+    fn grant_over(&self, random: &mut Random) -> Event {
+        let iomode = random.pick(&Iomode::BOTH);
+        let segments = self.state.table.segments(iomode);
+        if segments.is_empty() {
+            let (first, last) = self.on_grid(random);
+            return grant(iomode.number(), first, last, &self.body(random));
+        }
+        let segment = random.pick(segments);
+        let (one, end) = beside_or_inside(random, &segment);
+        let body = self.body_beside(random, &segment);
+        grant(IOMODE_ANY - iomode.number(), one.min(end), one.max(end), &body)
+    }
+
+    /// The body that a segment names, the same but for flag 4, or any.
+    fn body_beside(&self, random: &mut Random, segment: &Segment) -> Vec<u8> {
+        let slot = segment.right.slot().and_then(|slot| slots(&self.state.store).nth(slot as usize));
+        let body = slot.and_then(body_in).map_or_else(Vec::new, <[u8]>::to_vec);
+        match random.below(3) {
+            0 => body,
+            1 => with_flag_4_turned(body),
+            _ => self.body(random),
+        }
+    }
+
+    /// One of the bodies that are granted.
+    fn body(&self, random: &mut Random) -> Vec<u8> {
+        (self.manner.body_of)(self.manner.first_body + random.below(self.manner.bodies) as u32)
     }
 
     fn numbers(&self, random: &mut Random) -> RangeNumbers {
@@ -224,6 +277,14 @@ impl EventSource {
     }
 }
 
+/// A body ends with flags and hint, of four bytes each.
+fn with_flag_4_turned(mut body: Vec<u8>) -> Vec<u8> {
+    if let Some(flags) = body.iter_mut().nth_back(4) {
+        *flags ^= 4;
+    }
+    body
+}
+
 /// Two bytes at or beside the ends of a segment, or inside it.
 fn beside_or_inside(random: &mut Random, segment: &Segment) -> (u64, u64) {
     let Segment { first, last, .. } = *segment;
@@ -252,6 +313,23 @@ mod tests {
         for count in [1, 0, 7, 400, 60] {
             let cases = source.burst(&mut random, count);
             assert_eq!(cases.len(), count);
+            for case in &cases {
+                table_case_line(&mut state, case);
+            }
+            assert_eq!(state, source.state);
+        }
+    }
+
+    #[test]
+    fn both_iomodes_go_on_in_that_state() {
+        let mut random = Random::new(4);
+        let mut source = EventSource::new(&mut random);
+        let mut state = State::default();
+        for count in [0, 1, 30, 0, 60, 200, 0, 0] {
+            let mut cases = source.burst(&mut random, count);
+            let in_both = source.both_iomodes(&mut random);
+            assert!((1..=MOST_IN_BOTH).contains(&in_both.len()));
+            cases.extend(in_both);
             for case in &cases {
                 table_case_line(&mut state, case);
             }

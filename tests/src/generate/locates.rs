@@ -17,6 +17,9 @@ use independent::table_cases::TableCase;
 /// 2^44, where a unit number no longer fits 32 bits.
 const FAR: u64 = 1 << 44;
 
+/// From here on READ is granted too, where RW has an odd number of servers.
+const READ_STRIPES: u64 = 1 << 40;
+
 /// Unit and servers. Some products of the two do not fit 64 bits.
 const STRIPINGS: [(u64, usize); 18] = [
     (1, 2),
@@ -65,6 +68,7 @@ pub fn add(cases: &mut CaseFileWriter) {
     add_worked_examples(cases);
     STRIPINGS.iter().for_each(|&(unit, servers)| add_striping(cases, unit, servers));
     add_rights(cases);
+    add_both_iomodes(cases);
     add_small_file(cases);
     add_mirrors(cases);
     add_random_tables(cases);
@@ -104,23 +108,37 @@ fn add_worked_examples(cases: &mut CaseFileWriter) {
 }
 
 /// The start of each unit of the first round, and ends of units there, beyond
-/// 2^44 and near the file's end.
+/// 2^44 and near the file's end. Where READ is granted too, its stripes are
+/// asked for once RW is gone.
 fn add_striping(cases: &mut CaseFileWriter, unit: u64, servers: usize) {
     start_with(cases, &[grant(2, 0, LAST_BYTE, &striped(unit, servers))]);
     if servers % 2 == 1 {
-        cases.event(grant(1, 1 << 40, LAST_BYTE, &striped(unit, servers - 1)));
+        cases.event(grant(1, READ_STRIPES, LAST_BYTE, &striped(unit, servers - 1)));
     }
+    let requests = striping_requests(unit, servers);
+    requests.iter().for_each(|&(offset, length)| ask(cases, offset, length));
+    if servers % 2 == 1 {
+        let end_rw = if unit % 2 == 1 { layout_return } else { recall };
+        cases.event(end_rw(2, 0, LAST_BYTE));
+        let of_read = requests.iter().filter(|(offset, _)| *offset >= READ_STRIPES);
+        of_read.for_each(|&(offset, length)| cases.locate(IoRequest::read(offset, length)));
+    }
+}
+
+/// Offsets and lengths for units of this size on so many servers.
+fn striping_requests(unit: u64, servers: usize) -> Vec<(u64, u64)> {
     let far_start = FAR - FAR % unit;
     let last_start = u64::MAX - u64::MAX % unit;
     let first_round = (0..servers as u64).filter_map(|number| unit.checked_mul(number));
     let others = [unit, FAR, far_start, 1 << 63, last_start - unit, last_start, u64::MAX];
     let ends = others.into_iter().flat_map(|offset| [offset.saturating_sub(1), offset]);
     let offsets = first_round.chain(ends);
-    for (place, offset) in offsets.enumerate() {
+    let request = |(place, offset): (usize, u64)| {
         let longest = u64::MAX - offset;
         let length = [longest, 1, unit, 2, unit - offset % unit][place % 5];
-        ask(cases, offset, length.min(longest));
-    }
+        (offset, length.min(longest))
+    };
+    offsets.enumerate().map(request).collect()
 }
 
 /// READ on 0..99 and RW on 50..149, each none, granted or recalled, under
@@ -135,6 +153,31 @@ fn add_rights(cases: &mut CaseFileWriter) {
             write[..write_right].iter().for_each(|event| cases.event(event.clone()));
             for offset in [10, 49, 50, 99, 100, 149, 150] {
                 ask(cases, offset, 60);
+            }
+        }
+    }
+}
+
+/// RW on 1,100..1,199 and 1,300..1,399, and READ inside the first and around
+/// the second, under another body and under the same one; then RW recalled.
+/// These bytes are in the second stripe of RW's body, and READ's other body has
+/// one server and two mirrors: stripe, mirror and piece tell which one serves.
+fn add_both_iomodes(cases: &mut CaseFileWriter) {
+    let in_one = [1_100, 1_119, 1_150, 1_199, 1_280, 1_299, 1_400, 1_449, 1_450];
+    let in_both = [1_120, 1_121, 1_135, 1_148, 1_149, 1_300, 1_301, 1_333, 1_366, 1_398, 1_399];
+    // The flags of RW's body and of READ's other one: flag 4 in each, or not.
+    for (flags, other_flags) in [(0, 15), (4, 4), (11, 0), (15, 8)] {
+        let write = LayoutPlan { unit: 1_000, flags, ..LayoutPlan::plain(1, 2) }.encode().bytes;
+        let other = LayoutPlan { flags: other_flags, ..LayoutPlan::plain(2, 1) }.encode().bytes;
+        for read in [&other, &write] {
+            let rw = [(1_100, 1_199), (1_300, 1_399)].map(|(first, last)| grant(2, first, last, &write));
+            start_with(cases, &rw);
+            cases.event(grant(1, 1_120, 1_149, read));
+            cases.event(grant(1, 1_280, 1_449, read));
+            in_one.iter().chain(&in_both).for_each(|&offset| cases.locate(IoRequest::read(offset, 200)));
+            cases.event(recall(2, 0, LAST_BYTE));
+            for offset in [1_119, 1_120, 1_149, 1_300, 1_399] {
+                cases.locate(IoRequest::read(offset, 200));
             }
         }
     }
@@ -159,7 +202,8 @@ fn add_small_file(cases: &mut CaseFileWriter) {
     }
 }
 
-/// Every choice of mirrors, with another one for reading.
+/// Every choice of mirrors, with another one in the body of READ, which serves
+/// once RW is recalled.
 fn add_mirrors(cases: &mut CaseFileWriter) {
     for (place, efficiencies) in EFFICIENCIES.iter().enumerate() {
         for flags in [0, 8] {
@@ -172,8 +216,9 @@ fn add_mirrors(cases: &mut CaseFileWriter) {
             turned.mirrors.reverse();
             cases.event(grant(1, 0, LAST_BYTE, &turned.encode().bytes));
             ask(cases, 5_000, 10_000);
-            cases.event(recall(1, 0, LAST_BYTE));
             ask(cases, 0, 1);
+            cases.event(recall(2, 0, LAST_BYTE));
+            ask(cases, 5_000, 10_000);
         }
     }
 }

@@ -1,7 +1,7 @@
 //! Random cases of all kinds, sound and damaged.
 
 use super::bad_records::{add_cut_record, add_record_without_form, add_unknown_kind};
-use super::event_bursts::EventSource;
+use super::event_bursts::{EventSource, MOST_IN_BOTH};
 use super::layout4s::EDGES;
 use super::layouts::MOST_SERVERS;
 use super::reports_written::case_of;
@@ -27,15 +27,18 @@ pub fn random_file(seed: u64, count: usize) -> Vec<u8> {
     let mut source = EventSource::new(&mut random);
     let mut left = count;
     while left > 0 {
-        if random.once_in(30) {
+        let burst = if random.once_in(30) {
             let length = random.between(1, LONGEST_BURST).min(left);
-            let burst = source.burst(&mut random, length);
-            burst.iter().for_each(|case| cases.table(case));
-            left -= length;
+            source.burst(&mut random, length)
+        } else if left >= MOST_IN_BOTH && random.once_in(20) {
+            source.both_iomodes(&mut random)
         } else {
             add_case(&mut cases, &mut random);
             left -= 1;
-        }
+            continue;
+        };
+        burst.iter().for_each(|case| cases.table(case));
+        left -= burst.len();
     }
     match seed % 6 {
         3 => add_cut_record(&mut cases, &mut random),
@@ -116,6 +119,10 @@ fn layout_plan(random: &mut Random) -> LayoutPlan {
         if random.once_in(2) {
             *server = server_plan(random);
         }
+    }
+    if random.once_in(60) {
+        // One server more than the mirrors before it have.
+        plan.mirrors[mirrors - 1].push(server_plan(random));
     }
     plan
 }

@@ -2,8 +2,8 @@
 use Rattle.base.specs.Ranges.{answerOfRangeEnd}
 use Rattle.layout.specs.Answers.{answerOfLayout}
 use Rattle.layout.specs.declared.body.LayoutAnswer.{LayoutAnswer}
-use Rattle.route.proofs.RouteLaws.{barred, is-served, is-unsound, not-barred, not-granted, not-served, range-refused}
-use Rattle.route.proofs.ServedLaws.{body-asked, body-not-refused, served-limits}
+use Rattle.route.proofs.RouteLaws.{is-served, is-unsound, not-served, range-refused}
+use Rattle.route.proofs.ServedLaws.{layout-not-refused, layout-read-serves, no-grant-serves, served-limits}
 use Rattle.route.specs.Answers.{answerOfGrant, slotAsked}
 use Rattle.xdr.proofs.Steps.{by-case, refusal-up}
 use borrow.Author.Needs.{needs}
@@ -61,10 +61,9 @@ returns-3 c =
     let s = sym (after-if1 .before .before .validate-and-read .ensures .0) ∙ not-false _ (after-if1 .if1 .left) in
     let r = by-case answerOfRangeEnd (c .before .before .before .before .request-last .ensures)
     (c .before .before .enum-told .given .1) in
-    let g =
-    by-case answerOfGrant (after-if1 .before .before .before .before .serving-grant .ensures) (c .enum-told3 .given .1) in
+    let g = by-case answerOfGrant (after-if1 .before .before .before .before .serving-grant .ensures s) (c .enum-told3 .given .1) in
     sym (not-served (a .write) (a .t) (now (a .store)) (a .offset) (a .len) _ _ s r
-    (not-granted (a .write) (a .t) (a .offset) (now (a .store)) _ g))
+    (no-grant-serves (a .t) (now (a .store)) (a .offset) (a .write) _ g))
 
 enum-known-a : tie.Need-enum-known-a
 enum-known-a c = search needs
@@ -79,39 +78,17 @@ returns-4 c =
     let after-slot-asked = after-if1 .before .before .before in
     let a = after-slot-asked .before .before .before .args in
     let s = sym (after-if1 .before .before .validate-and-read .ensures .0) ∙ not-false _ (after-if1 .if1 .left) in
-    let g = by-case answerOfGrant (after-slot-asked .before .serving-grant .ensures) (after-h .h .given .1) in
-    let i = after-slot-asked .slot-asked .ensures ∙ ap slotAsked (after-slot-asked .before .serving-grant .ensures) in
+    let served = after-slot-asked .before .serving-grant .ensures s in
+    let g = by-case answerOfGrant served (after-h .h .given .1) in
+    let i = after-slot-asked .slot-asked .ensures ∙ ap slotAsked served in
     let starts = after-if1 .before .before .validate-and-read .result .read .starts in
-    let l = sym (body-asked (a .t) (now (a .store)) s (a .write) (a .offset) _ _ g i)
-    ∙ by-case (λ (x : LayoutAnswer). answerOfLayout x starts) (after-if1 .before .before .validate-and-read .ensures .1)
+    let l = by-case (λ (x : LayoutAnswer). answerOfLayout x starts) (after-if1 .before .before .validate-and-read .ensures .1)
     (c .enum-told4 .given .1) in
-    absurd (body-not-refused (a .t) (now (a .store)) s (a .write) (a .offset) _ _ g l)
-
-is-barred-requires : tie.Need-is-barred-requires
-is-barred-requires c κs = search needs
-
-returns-5 : tie.Need-returns-5
-returns-5 c =
-    let after-h = c .before .before .before .before .before .before .before in
-    let after-if1 = after-h .before .before .before .before .before in
-    let after-slot-asked = after-if1 .before .before .before in
-    let a = after-slot-asked .before .before .before .args in
-    let s = sym (after-if1 .before .before .validate-and-read .ensures .0) ∙ not-false _ (after-if1 .if1 .left) in
-    let r = by-case answerOfRangeEnd (after-h .before .before .before .before .request-last .ensures)
-    (after-h .before .before .enum-told .given .1) in
-    let g = by-case answerOfGrant (after-slot-asked .before .serving-grant .ensures) (after-h .h .given .1) in
-    let i = after-slot-asked .slot-asked .ensures ∙ ap slotAsked (after-slot-asked .before .serving-grant .ensures) in
-    let starts = after-if1 .before .before .validate-and-read .result .read .starts in
-    let l = sym (body-asked (a .t) (now (a .store)) s (a .write) (a .offset) _ _ g i)
-    ∙ by-case (λ (x : LayoutAnswer). answerOfLayout x starts) (after-if1 .before .before .validate-and-read .ensures .1)
-    (c .before .before .before .a .given .1) in
-    sym (not-served (a .write) (a .t) (now (a .store)) (a .offset) (a .len) _ _ s r
-    (barred (a .write) (a .t) (a .offset) (now (a .store)) _ _ g l
-    (sym (c .before .is-barred .ensures) ∙ c .if2 .taken)))
+    absurd (layout-not-refused (a .t) (now (a .store)) s (a .write) (a .offset) _ _ g i _ l)
 
 piece-at-requires : tie.Need-piece-at-requires
 piece-at-requires c κs =
-    let after-a = c .before .before .before .before in
+    let after-a = c .before .before in
     let after-h = after-a .before .before .before .before in
     let after-if1 = after-h .before .before .before .before .before in
     let after-slot-asked = after-if1 .before .before .before in
@@ -119,19 +96,18 @@ piece-at-requires c κs =
     let s = sym (after-if1 .before .before .validate-and-read .ensures .0) ∙ not-false _ (after-if1 .if1 .left) in
     let r = by-case answerOfRangeEnd (after-h .before .before .before .before .request-last .ensures)
     (after-h .before .before .enum-told .given .1) in
-    let g = by-case answerOfGrant (after-slot-asked .before .serving-grant .ensures) (after-h .h .given .1) in
-    let i = after-slot-asked .slot-asked .ensures ∙ ap slotAsked (after-slot-asked .before .serving-grant .ensures) in
+    let served = after-slot-asked .before .serving-grant .ensures s in
+    let g = by-case answerOfGrant served (after-h .h .given .1) in
+    let i = after-slot-asked .slot-asked .ensures ∙ ap slotAsked served in
     let starts = after-if1 .before .before .validate-and-read .result .read .starts in
-    let l = sym (body-asked (a .t) (now (a .store)) s (a .write) (a .offset) _ _ g i)
-    ∙ by-case (λ (x : LayoutAnswer). answerOfLayout x starts) (after-if1 .before .before .validate-and-read .ensures .1)
+    let l = by-case (λ (x : LayoutAnswer). answerOfLayout x starts) (after-if1 .before .before .validate-and-read .ensures .1)
     (after-a .a .given .1) in
     served-limits (a .write) (a .t) (now (a .store)) (a .offset) (a .len) _ _ r
-    (not-barred (a .write) (a .t) (a .offset) (now (a .store)) _ _ g l
-    (sym (c .before .before .is-barred .ensures) ∙ c .before .if2 .left))
+    (layout-read-serves (a .t) (now (a .store)) s (a .write) (a .offset) _ _ g i _ l)
 
-returns-6 : tie.Need-returns-6
-returns-6 c =
-    let after-a = c .before .before .before .before .before in
+returns-5 : tie.Need-returns-5
+returns-5 c =
+    let after-a = c .before .before .before in
     let after-h = after-a .before .before .before .before in
     let after-if1 = after-h .before .before .before .before .before in
     let after-slot-asked = after-if1 .before .before .before in
@@ -139,15 +115,14 @@ returns-6 c =
     let s = sym (after-if1 .before .before .validate-and-read .ensures .0) ∙ not-false _ (after-if1 .if1 .left) in
     let r = by-case answerOfRangeEnd (after-h .before .before .before .before .request-last .ensures)
     (after-h .before .before .enum-told .given .1) in
-    let g = by-case answerOfGrant (after-slot-asked .before .serving-grant .ensures) (after-h .h .given .1) in
-    let i = after-slot-asked .slot-asked .ensures ∙ ap slotAsked (after-slot-asked .before .serving-grant .ensures) in
+    let served = after-slot-asked .before .serving-grant .ensures s in
+    let g = by-case answerOfGrant served (after-h .h .given .1) in
+    let i = after-slot-asked .slot-asked .ensures ∙ ap slotAsked served in
     let starts = after-if1 .before .before .validate-and-read .result .read .starts in
-    let l = sym (body-asked (a .t) (now (a .store)) s (a .write) (a .offset) _ _ g i)
-    ∙ by-case (λ (x : LayoutAnswer). answerOfLayout x starts) (after-if1 .before .before .validate-and-read .ensures .1)
+    let l = by-case (λ (x : LayoutAnswer). answerOfLayout x starts) (after-if1 .before .before .validate-and-read .ensures .1)
     (after-a .a .given .1) in
     is-served (a .write) (a .t) (now (a .store)) (a .offset) (a .len) _ _ _ s r
-    (not-barred (a .write) (a .t) (a .offset) (now (a .store)) _ _ g l
-    (sym (c .before .before .before .is-barred .ensures) ∙ c .before .before .if2 .left)) (c .piece-at .ensures)
+    (layout-read-serves (a .t) (now (a .store)) s (a .write) (a .offset) _ _ g i _ l) (c .piece-at .ensures)
 
 pub locate-spec : {M : Type 1} → statement M
 locate-spec =
@@ -168,7 +143,5 @@ locate-spec =
     enum-known-a
     enum-told-4
     returns-4
-    is-barred-requires
-    returns-5
     piece-at-requires
-    returns-6)
+    returns-5)

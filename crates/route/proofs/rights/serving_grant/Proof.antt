@@ -1,27 +1,39 @@
--- `route::rights::serving_grant` meets its contract: a read by the read list where it grants, else the other list.
-use Rattle.route.proofs.RouteLaws.{read-is-missing, read-serves, rw-alone}
-use Rattle.route.specs.Answers.{answerOfGrant}
-use Rattle.route.specs.Routes.{grantAt, servingGrant}
-use Rattle.segments.specs.Segments.{RW}
+-- `route::rights::serving_grant` meets its contract: a write by RW; a read by RW where it serves reads, else by READ.
+use Rattle.base.specs.Answer.{Answer}
+use Rattle.route.proofs.ServedLaws.{read-grant, write-grant}
+use Rattle.route.specs.Answers.{answerOfGrant, grantForReads}
+use Rattle.route.specs.Routes.{Grant, grantAt, orElse}
+use Rattle.segments.specs.Segments.{READ}
 use Rattle.xdr.proofs.Steps.{by-case}
 use borrow.Author.Needs.{needs}
-use borrow.Author.Tests.{not-false, not-true}
-use mathlib.Core.Logic.{⊎-elim}
-use mathlib.Core.Path.{_≡_, sym, _∙_}
+use denote.Ref.{now}
+use mathlib.Core.Path.{sym, ap, _∙_}
 use Rattle.route.proofs.rights.serving_grant.Statement.{statement}
 use Rattle.route.proofs.rights.serving_grant.Tie as tie
 
 grant-in-requires : tie.Need-grant-in-requires
 grant-in-requires c κs = search needs
 
+returns : tie.Need-returns
+returns c =
+    let a = c .before .before .before .before .args in
+    λ s. c .before .grant-in .ensures ∙ sym (write-grant (a .t) (now (a .store)) s (a .write) (a .x) (c .if1 .taken))
+
+grant-for-reads-requires : tie.Need-grant-for-reads-requires
+grant-for-reads-requires c κs = search needs
+
 enum-told : tie.Need-enum-told
 enum-told c = search needs
 
-returns : tie.Need-returns
-returns c =
-    let a = c .before .before .before .before .before .args in
-    let e = by-case answerOfGrant (c .before .before .grant-in .ensures) (c .enum-told .given .1) in
-    c .before .before .grant-in .ensures ∙ (e ∙ sym (read-serves (a .write) (a .t) (a .x) _ (not-true _ (c .before .before .before .before .if1 .taken)) e))
+returns-2 : tie.Need-returns-2
+returns-2 c =
+    let after-if1 = c .before .before .before in
+    let a = after-if1 .before .before .before .before .args in
+    let found = c .before .before .grant-for-reads .ensures ∙ ap (grantForReads (now (a .store))) (after-if1 .before .grant-in .ensures) in
+    let e = by-case answerOfGrant found (c .enum-told .given .1) in
+    λ s.
+    found ∙ e
+    ∙ sym (read-grant (a .t) (now (a .store)) s (a .write) (a .x) (after-if1 .if1 .left) ∙ ap (λ (x : Answer Grant). orElse x (grantAt (a .t) READ (a .x))) e)
 
 enum-told-2 : tie.Need-enum-told-2
 enum-told-2 c = search needs
@@ -29,17 +41,25 @@ enum-told-2 c = search needs
 grant-in-requires-2 : tie.Need-grant-in-requires-2
 grant-in-requires-2 c κs = search needs
 
-returns-2 : tie.Need-returns-2
-returns-2 c =
-    let a = c .before .before .before .args in
-    let e : servingGrant (a .write) (a .t) (a .x) ≡ grantAt (a .t) RW (a .x) =
-    ⊎-elim
-    (λ w. read-is-missing (a .write) (a .t) (a .x) _ (not-true _ (w .0 .taken)) (by-case answerOfGrant (w .2 .ensures) (w .4 .given .1)))
-    (λ w. rw-alone (a .write) (a .t) (a .x) (not-false _ (w .left)))
-    (c .before .before .if1 .came) in
-    c .grant-in2 .ensures ∙ sym e
+returns-3 : tie.Need-returns-3
+returns-3 c =
+    let after-if1 = c .before .before .before .before .before in
+    let a = after-if1 .before .before .before .before .args in
+    let found = c .before .before .before .before .grant-for-reads .ensures ∙ ap (grantForReads (now (a .store))) (after-if1 .before .grant-in .ensures) in
+    let e = by-case answerOfGrant found (c .before .before .enum-told2 .given .1) in
+    λ s.
+    c .grant-in2 .ensures
+    ∙ sym (read-grant (a .t) (now (a .store)) s (a .write) (a .x) (after-if1 .if1 .left) ∙ ap (λ (x : Answer Grant). orElse x (grantAt (a .t) READ (a .x))) e)
 
 pub serving-grant-spec : {M : Type 1} → statement M
 serving-grant-spec =
     tie.close
-    (tie.spec grant-in-requires enum-told returns enum-told-2 grant-in-requires-2 returns-2)
+    (tie.spec
+    grant-in-requires
+    returns
+    grant-for-reads-requires
+    enum-told
+    returns-2
+    enum-told-2
+    grant-in-requires-2
+    returns-3)
