@@ -206,10 +206,10 @@ struct basilothyn_event_result basilothyn_return(struct basilothyn_table table, 
                                                  uint64_t offset, uint64_t length, uint32_t iomode);
 
 /* A recall: what is granted in the range and iomode becomes recalled; from now on that iomode serves no I/O there.
- * The other still may: where RW serves, a recall of READ changes no answer, and after a recall of RW a read goes
- * through READ where that is granted. A recall of a file system or of all layouts is one of each of its files, whole.
- * Refusals in order: 20, 5, 3, 25, 23. What to answer the server: on 5 NFS4ERR_INVAL, on 3 NFS4ERR_BADIOMODE, on 25
- * NFS4ERR_NOMATCHING_LAYOUT, on 23 and 20 NFS4ERR_DELAY. */
+ * The other still may: a recall of READ changes no answer to a write, and none to a read where RW is granted under a
+ * body without flag 4; after a recall of RW a read goes through READ where that is granted. A recall of a file system
+ * or of all layouts is one of each of its files, whole. Refusals in order: 20, 5, 3, 25, 23. What to answer the
+ * server: on 5 NFS4ERR_INVAL, on 3 NFS4ERR_BADIOMODE, on 25 NFS4ERR_NOMATCHING_LAYOUT, on 23 and 20 NFS4ERR_DELAY. */
 struct basilothyn_event_result basilothyn_recall(struct basilothyn_table table, uint8_t *store, size_t store_length,
                                                  uint64_t offset, uint64_t length, uint32_t iomode);
 

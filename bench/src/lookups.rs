@@ -12,8 +12,8 @@ use std::hint::black_box;
 
 type Holding = fn(u64, u64) -> Held;
 
-/// What is held besides RW alone, the iomode that a read then uses, and the rows' words for it.
-const READ_BESIDE_RW: [(Holding, u32, &str); 3] = [
+/// Tables that hold READ, the iomode that a read then uses, and the rows' words for it.
+const WITH_READ: [(Holding, u32, &str); 3] = [
     (Held::in_read, 1, "READ alone"),
     (|segments, slots| Held::in_both(segments, slots, 0), 2, "both iomodes serve"),
     (|segments, slots| Held::in_both(segments, slots, 4), 1, "RW with flag 4 beside READ"),
@@ -33,7 +33,7 @@ pub fn rows_with_read(segments: u64, slots: u64) -> Vec<Row> {
         assert_eq!(raw::locate_read(held.core, &held.store, offset, STEP).iomode, iomode, "{rights}");
         read(&held, offset, &format!("locate for a read, {rights}, {}", held.name()))
     };
-    READ_BESIDE_RW.map(row).into()
+    WITH_READ.map(row).into()
 }
 
 /// The first byte of a segment in the middle of the list.

@@ -297,8 +297,9 @@ mod tests {
         }
     }
 
-    /// READ has 0..99 and RW 40..69: a read that starts before RW or after it
-    /// goes through READ, over bytes at which both serve.
+    /// READ has 0..99 and RW 40..69: a read that starts before RW goes through
+    /// READ, also over the bytes at which both serve, and so does one that
+    /// starts after it.
     #[test]
     fn only_the_first_byte_is_looked_at() {
         let [one, other] = two_bodies(0);

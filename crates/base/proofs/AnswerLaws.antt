@@ -1,13 +1,21 @@
--- What holds of tests that were passed, and of answers: what an accepted one went through.
+-- What holds of tests that were passed, and of answers: what an accepted one went through, and what is made of one.
 use Prim.Native.Nat.{ℕ}
-use mathlib.Core.Path.{_≡_, refl, sym}
-use mathlib.Core.Bool.{Bool, true, false, _&&_, false≢true}
+use mathlib.Core.Path.{_≡_, refl, sym, ap, _∙_}
+use mathlib.Core.Bool.{Bool, true, false, _&&_, _||_, false≢true}
 use native.Mathlib.Omega.{arith}
-use Rattle.base.specs.Answer.{Answer, accepted, refused, given, pick}
+use Rattle.base.specs.Answer.{Answer, accepted, refused, given, isAccepted, orElse, pick}
 
 pub both : (a b : Bool) → (a && b) ≡ true → (a ≡ true) × (b ≡ true)
 both true b h = (refl, h)
 both false b h = absurd (false≢true h)
+
+pub neither : (a b : Bool) → (a || b) ≡ false → (a ≡ false) × (b ≡ false)
+neither true b h = absurd (false≢true (sym h))
+neither false b h = (refl, h)
+
+pub the-first : (a b : Bool) → (a || b) ≡ true → b ≡ false → a ≡ true
+the-first true b h e = refl
+the-first false b h e = absurd (false≢true (sym e ∙ h))
 
 -- two tests that hold together
 pub same-tests : (a b : Bool) → (a ≡ true → b ≡ true) → (b ≡ true → a ≡ true) → a ≡ b
@@ -62,3 +70,28 @@ pub pick-not-refused : {A : Type 0} (t : Bool) (n : ℕ) (x : Answer A) (a : A) 
 unfolding pick
 pick-not-refused true n x a h = never-accepted n a h
 pick-not-refused false n x a h = (refl, h)
+
+pub accepted-value : {A : Type 0} (x : Answer A) → isAccepted x ≡ true → (a : A) × (x ≡ accepted a)
+accepted-value (accepted a) h = (a, refl)
+accepted-value (refused n) h = absurd (false≢true h)
+
+-- ---- what is made of an answer
+
+-- it is refused only where the answer is, and with its number
+pub given-refused : {A B : Type 0} (x : Answer A) (f : A → B) (n : ℕ) → given x (λ a. accepted (f a)) ≡ refused n → x ≡ refused n
+unfolding given
+given-refused (accepted a) f n e = never-refused (f a) n e
+given-refused {A} {B} (refused k) f n e = ap refused (same-refusal {A = B} k n e)
+
+-- of a test
+pub given-pick : {A B : Type 0} (t : Bool) (n : ℕ) (a : A) (f : A → Answer B) → given (pick t (refused n) (accepted a)) f ≡ pick t (refused n) (f a)
+unfolding given pick
+given-pick true n a f = refl
+given-pick false n a f = refl
+
+-- of the first of two, or else of the second
+pub given-or-else : {A B : Type 0} (a b : Answer A) (f : A → B)
+    → given (orElse a b) (λ v. accepted (f v)) ≡ orElse (given a (λ v. accepted (f v))) (given b (λ v. accepted (f v)))
+unfolding given
+given-or-else (accepted v) b f = refl
+given-or-else (refused n) b f = refl

@@ -17,6 +17,11 @@ unfoldable pub given : {A B : Type 0} → Answer A → (A → Answer B) → Answ
 given (accepted a) next = next a
 given (refused n) next = refused n
 
+-- the first, where it is not refused; else the second
+abbrev pub orElse : {A : Type 0} → Answer A → Answer A → Answer A
+orElse (accepted a) next = accepted a
+orElse (refused n) next = next
+
 -- one of two, by a test
 unfoldable pub pick : {A : Type 0} → Bool → A → A → A
 pick true a b = a

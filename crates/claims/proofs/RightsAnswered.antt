@@ -1,16 +1,16 @@
--- Which requests are answered, by the rights of their first byte, in which iomode a read is, and that it goes where a write of the same bytes goes.
+-- Which requests are answered, by the rights of their first byte; the iomode of an answered read; and that it goes where a write of the same bytes goes.
 use Prim.Native.Nat.{ℕ, _-_}
 use mathlib.Core.Path.{_≡_, refl, sym, ap, _∙_}
-use mathlib.Core.Bool.{Bool, true, false, not, _||_, false≢true}
+use mathlib.Core.Bool.{Bool, true, false, not, false≢true}
 use mathlib.Core.List.{List}
 use native.Mathlib.Omega.{arith}
-use Rattle.base.specs.Answer.{Answer, accepted, refused, given, isAccepted, pick}
+use Rattle.base.specs.Answer.{Answer, accepted, refused, given, isAccepted, orElse, pick}
 use Rattle.base.specs.Best.{best}
 use Rattle.base.specs.Bits.{bit}
 use Rattle.base.specs.Ranges.{requestLast}
 use Rattle.base.specs.declared.iomode.Iomode.{Iomode}
 use Rattle.base.specs.declared.iomode.Iomode.the-variants.{Read, ReadWrite}
-use Rattle.base.proofs.AnswerLaws.{never-accepted, never-refused, same-answer, same-refusal}
+use Rattle.base.proofs.AnswerLaws.{given-inv, given-refused, neither, never-accepted, same-answer, the-first}
 use Rattle.base.proofs.BestLaws.{best-is-one}
 use Rattle.layout.specs.Layouts.{Layout, layoutBody}
 use Rattle.layout.proofs.LayoutLaws.{accepted-limits}
@@ -22,13 +22,13 @@ use Rattle.model.specs.Claim.{rightIn}
 use Rattle.soundness.specs.Sound.{sound}
 use Rattle.route.specs.Mirrors.{bestMirror, efficiencyOf, only}
 use Rattle.route.specs.Rights.{ServedUnder, byGrant, readsByRw, servedByRights, servedOf}
-use Rattle.route.specs.Routes.{layoutIn, noReads, oneMirror, orElse, pieceAt, routed}
+use Rattle.route.specs.Routes.{layoutIn, noReads, oneMirror, pieceAt, routed}
 use Rattle.route.specs.declared.piece.Piece.{Piece}
 use Rattle.route.proofs.MirrorLaws.{all-named, one-named}
 use Rattle.route.proofs.PieceLaws.{by-parts, its-layout, its-mirrors}
 use Rattle.route.proofs.RightsServed.{routed-by-rights}
-use Rattle.route.proofs.RouteLaws.{is-served}
-use Rattle.route.proofs.ServedLaws.{read-as-write}
+use Rattle.route.proofs.RouteLaws.{is-served, range-refused}
+use Rattle.route.proofs.ServedLaws.{request-refused, write-serves-a-read}
 use Rattle.claims.specs.Statements.{ReadAsWritten, hasRight, isGranted, isGrantedWithoutFlag4}
 
 -- ---- one right
@@ -64,14 +64,6 @@ of-rw (recalled b) = fails 17 refl refl
 
 -- ---- the rights of a byte
 
-one-of : (a b : Bool) → (a || b) ≡ true → b ≡ false → a ≡ true
-one-of true b h e = refl
-one-of false b h e = absurd (false≢true (sym e ∙ h))
-
-neither : (a b : Bool) → (a || b) ≡ false → (a ≡ false) × (b ≡ false)
-neither true b h = absurd (false≢true (sym h))
-neither false b h = (refl, h)
-
 -- what serves a read, once it is known what RW does
 once-rw : (r w : ByteRight) {a : Answer ServedUnder} → readsByRw w ≡ a → servedByRights false r w ≡ orElse a (byGrant Read r)
 once-rw r w f = ap (λ (x : Answer ServedUnder). orElse x (byGrant Read r)) f
@@ -82,7 +74,7 @@ rights-serve false r w h = go (of-rw w)
   where
     go : OfRw w → (v : ServedUnder) × (servedByRights false r w ≡ accepted v)
     go (serves b f g) = (_, once-rw r w f)
-    go (fails n f g) = let k = granted-serves Read r (one-of (isGranted r) (isGrantedWithoutFlag4 w) h g) in (_, once-rw r w f ∙ k .1)
+    go (fails n f g) = let k = granted-serves Read r (the-first (isGranted r) (isGrantedWithoutFlag4 w) h g) in (_, once-rw r w f ∙ k .1)
 
 rights-refuse : (write : Bool) (r w : ByteRight) → hasRight write r w ≡ false → servedByRights write r w ≡ refused 17
 rights-refuse true r w h = not-granted ReadWrite w h
@@ -97,15 +89,9 @@ rights-refuse false r w h = go (of-rw w)
 
 -- ---- which requests are answered
 
-taken : {A B : Type 0} (x : Answer A) (f : A → B) (b : B) → given x (λ a. accepted (f a)) ≡ accepted b → isAccepted x ≡ true
-unfolding given
-taken (accepted a) f b e = refl
-taken (refused n) f b e = never-accepted n b e
-
-not-taken : {A B : Type 0} (x : Answer A) (f : A → B) (n : ℕ) → given x (λ a. accepted (f a)) ≡ refused n → x ≡ refused n
-unfolding given
-not-taken (accepted a) f n e = never-refused (f a) n e
-not-taken {A} {B} (refused k) f n e = ap refused (same-refusal {A = B} k n e)
+pub out-of-order : (write : Bool) (t : Table) (store : List ℕ) (offset len n : ℕ) → sound t store ≡ true → requestLast offset len ≡ refused n
+    → routed write t store offset len ≡ refused 5
+out-of-order write t store offset len n s e = range-refused write t store offset len n s e ∙ ap (λ (k : ℕ). refused k) (request-refused offset len n e)
 
 module _ (write : Bool) (t : Table) (store : List ℕ) (offset len last : ℕ) (s : sound t store ≡ true) (e : requestLast offset len ≡ accepted last) where
   by-rights : given (routed write t store offset len) (λ p. accepted (servedOf store p)) ≡ servedByRights write (rightIn t store READ offset) (rightIn t store RW offset)
@@ -113,10 +99,10 @@ module _ (write : Bool) (t : Table) (store : List ℕ) (offset len last : ℕ) (
   by-rights = routed-by-rights t store s write offset len ∙ rw e
 
   pub with-right : hasRight write (rightIn t store READ offset) (rightIn t store RW offset) ≡ true → isAccepted (routed write t store offset len) ≡ true
-  with-right h = let k = rights-serve write _ _ h in taken _ (servedOf store) (k .0) (by-rights ∙ k .1)
+  with-right h = let k = rights-serve write _ _ h in ap isAccepted (given-inv _ _ (k .0) (by-rights ∙ k .1) .first)
 
   pub without-right : hasRight write (rightIn t store READ offset) (rightIn t store RW offset) ≡ false → routed write t store offset len ≡ refused 17
-  without-right h = not-taken _ (servedOf store) 17 (by-rights ∙ rights-refuse write _ _ h)
+  without-right h = given-refused _ (servedOf store) 17 (by-rights ∙ rights-refuse write _ _ h)
 
 -- ---- the iomode of a read
 
@@ -162,7 +148,7 @@ read-as-written t store offset len p l e h f =
     let r = by-parts true t store offset len p e in
     let v = r .serving in
     let g : v .layout ≡ l = its-layout true t store offset len p e l h in
-    let s = read-as-write t store offset v (r .serves) (ap (λ (y : Layout). noReads (y .summary .flags)) g ∙ f) in
+    let s = write-serves-a-read t store offset v (r .serves) (ap (λ (y : Layout). noReads (y .summary .flags)) g ∙ f) in
     let q = pieceAt false store offset len v in
     let answered : routed false t store offset len ≡ accepted q = sym (is-served false t store offset len (r .last) v q (r .sound) (r .range) s refl) in
     let same : pieceAt true store offset len v ≡ p = r .piece in

@@ -329,10 +329,13 @@ pub fn writes_need_a_grant()
 {}
 
 // "A write needs RW granted. A read needs READ granted, or RW granted under a body without flag 4": on a sound table
-// and store a request that is in order is answered exactly where its first byte has that right, and refused with 17
-// elsewhere. So "Rights and refusals don't change" (C-11): `hasRight` does not ask which of two rights is used.
+// and store a request that is out of order is refused with 5, and one that is in order is answered exactly where its
+// first byte has that right, and refused with 17 elsewhere. So "Rights and refusals don't change" (C-11): `hasRight`
+// does not ask which of two rights is used.
 pub fn requests_are_answered_where_they_have_the_right()
-    ensures { λ r. ⌜ ((write : Bool) (t : Table) (store : List ℕ) (offset len last : ℕ) → sound t store ≡ true
+    ensures { λ r. ⌜ ((write : Bool) (t : Table) (store : List ℕ) (offset len n : ℕ) → sound t store ≡ true
+        → requestLast offset len ≡ refused n → routed write t store offset len ≡ refused 5)
+        × ((write : Bool) (t : Table) (store : List ℕ) (offset len last : ℕ) → sound t store ≡ true
         → requestLast offset len ≡ accepted last
         → (hasRight write (rightIn t store READ offset) (rightIn t store RW offset) ≡ true
         → isAccepted (routed write t store offset len) ≡ true)

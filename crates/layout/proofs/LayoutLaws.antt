@@ -14,6 +14,7 @@ use Rattle.base.specs.Lists.{Each, padded}
 use Rattle.base.proofs.ListLaws.{each-at, each-map, length-padded, padded-at}
 use Rattle.base.proofs.AnswerLaws.{pick-accepted, pick-true}
 use Rattle.bytes.specs.Numbers.{beAt}
+use Rattle.bytes.proofs.NumberLaws.{be-there}
 use Rattle.xdr.specs.Parsed.{ok, manyAt, whole}
 use Rattle.xdr.proofs.Accepted.{number-read, pick-inv, then-inv, same-offset, same-value, whole-read}
 use Rattle.xdr.proofs.ManyLaws.{many-each}
@@ -86,7 +87,7 @@ accepted-limits s l e =
 
 -- the flags of an accepted body are eight bytes before its end
 pub flags-at-end : (s : List ℕ) (l : Layout) → layoutBody s ≡ accepted l → flagsAtEnd s ≡ l .summary .flags
-unfolding flagsAtEnd tailAt beAt
+unfolding flagsAtEnd tailAt
 flags-at-end s l h =
     let p = accepted-parts s l h in
     let f = then-inv _ _ (p .tail) (length s) (p .tail-read) in
@@ -97,7 +98,7 @@ flags-at-end s l h =
     let at : length s - 8 ≡ p .p2 = omega (arith, flags .end, hint .end, end) in
     pick-true _ _ _ (le-leb 8 (length s) (omega (arith, flags .end, hint .end, end)))
     ∙ (ap (beAt 4 s) at
-    ∙ (pick-true _ _ _ (le-leb (p .p2 + 4) (length s) (omega (arith, flags .end, flags .within)))
+    ∙ (be-there 4 s (p .p2) (omega (arith, flags .end, flags .within))
     ∙ (sym (flags .value)
     ∙ (ap (λ (x : Tail). x .flags) (same-value (t .rest)) ∙ ap (λ (x : Layout). x .summary .flags) (p .whole)))))
 

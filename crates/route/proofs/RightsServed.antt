@@ -3,7 +3,7 @@ use Prim.Native.Nat.{ℕ}
 use mathlib.Core.Path.{_≡_, refl, sym, ap, ap₂, _∙_}
 use mathlib.Core.Bool.{Bool, true, false}
 use mathlib.Core.List.{List, [], _∷_}
-use Rattle.base.specs.Answer.{Answer, accepted, refused, given, pick}
+use Rattle.base.specs.Answer.{Answer, accepted, refused, given, orElse, pick}
 use Rattle.base.specs.Ranges.{requestLast}
 use Rattle.base.specs.declared.SlotNumber.{SlotNumber}
 use Rattle.base.specs.declared.iomode.Iomode.{Iomode}
@@ -22,9 +22,10 @@ use Rattle.model.specs.Claim.{rightIn, underSlot, withBody}
 use Rattle.soundness.proofs.SoundParts.{holding, sounds}
 use Rattle.model.proofs.SlotRights.{Under}
 use Rattle.soundness.proofs.SoundRights.{under-at}
-use Rattle.route.specs.Routes.{Serving, grantAt, grantIn, grantOf, grantWithLayout, iomodeFor, layoutIn, noReads, orElse, pieceAt, readThroughRw, routed, served}
+use Rattle.route.specs.Routes.{Serving, grantAt, grantIn, grantOf, grantWithLayout, iomodeFor, layoutIn, noReads, pieceAt, readThroughRw, routed, served}
 use Rattle.route.specs.Rights.{ServedUnder, byGrant, readsByRw, servedByRights, servedOf}
-use Rattle.route.proofs.ServedLaws.{given-or-else, layout-of}
+use Rattle.base.proofs.AnswerLaws.{given-or-else, given-pick}
+use Rattle.route.proofs.ServedLaws.{layout-of}
 
 -- ---- a grant at a byte
 
@@ -87,17 +88,13 @@ module _ (t : Table) (store : List ℕ) (s : sound t store ≡ true) where
       go (without e r) = rw (e, r (iomodeFor m))
 
   read-by-right : (x : ℕ) → given (readThroughRw t store x) under ≡ readsByRw (rightIn t store RW x)
-  unfolding grantWithLayout readThroughRw readsByRw layoutIn given pick
+  unfolding grantWithLayout readThroughRw readsByRw layoutIn given
   read-by-right x = go (seen RW x)
     where
-      flag : (b : Bool) (v : Serving) → given (pick b (refused 17) (accepted v)) under ≡ pick b (refused 17) (under v)
-      flag true v = refl
-      flag false v = refl
-
       read : (slot last : ℕ) (a : Answer Layout)
           → given (given (given a λ l. accepted (record { grant = record { iomode = ReadWrite; slot = slot; last = last }; layout = l })) λ v. pick (noReads (v .layout .summary .flags)) (refused 17) (accepted v)) under
           ≡ given a (λ l. pick (noReads (l .summary .flags)) (refused 17) (accepted (record { iomode = ReadWrite; body = bodyIn (slotAt store slot) })))
-      read slot last (accepted l) = flag (noReads (l .summary .flags)) (record { grant = record { iomode = ReadWrite; slot = slot; last = last }; layout = l })
+      read slot last (accepted l) = given-pick (noReads (l .summary .flags)) 17 (record { grant = record { iomode = ReadWrite; slot = slot; last = last }; layout = l }) under
       read slot last (refused n) = refl
 
       go : Seen RW x → given (readThroughRw t store x) under ≡ readsByRw (rightIn t store RW x)

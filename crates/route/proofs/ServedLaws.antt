@@ -1,4 +1,4 @@
--- What holds of a granted byte, of what serves a request, and of the body in a slot that a granted segment names.
+-- What holds of a granted byte, of what serves a request, of the body in a slot that a granted segment names, and which grant serves.
 use Prim.Native.Nat.{ℕ, zero, suc, _+_, _-_, _≤_, _<_}
 use mathlib.Core.Path.{_≡_, refl, sym, ap, _∙_}
 use mathlib.Core.Bool.{Bool, true, false, false≢true, or-true}
@@ -7,10 +7,11 @@ use native.Mathlib.Omega.{arith}
 use borrow.Author.Tests.{eq-eqb, leb-true, lt-ltb, ltb-true, ne-eqb}
 use lib.Dec.{leb, eqb}
 use lib.ListN.{length, getD}
-use Rattle.base.specs.Answer.{Answer, accepted, refused, given, pick}
+use Rattle.base.specs.Answer.{Answer, accepted, refused, given, orElse, pick}
 use Rattle.base.specs.Ranges.{largestSum, requestLast}
 use Rattle.base.specs.declared.iomode.Iomode.{Iomode}
-use Rattle.base.proofs.AnswerLaws.{both, given-inv, never-accepted, never-refused, pick-not-refused, same-answer, same-refusal}
+use Rattle.base.proofs.AnswerLaws.{accepted-value, both, given-inv, given-or-else, given-pick, given-refused, never-accepted, never-refused}
+use Rattle.base.proofs.AnswerLaws.{pick-not-refused, same-answer, same-refusal}
 use Rattle.layout.specs.Layouts.{Layout, unitFits}
 use Rattle.layout.proofs.LayoutLaws.{accepted-limits, flags-at-end}
 use Rattle.segments.specs.declared.Right.{Right}
@@ -22,9 +23,9 @@ use Rattle.store.specs.Store.{bodyIn, slotAt}
 use Rattle.base.specs.Answer.{isAccepted}
 use Rattle.soundness.specs.Sound.{hasSlot, inOrder, sound}
 use Rattle.soundness.proofs.SoundParts.{in-order, listed, named-in, named-sound, sounds}
-use Rattle.route.specs.Answers.{servingGrant, slotAsked, grantForReads}
+use Rattle.route.specs.Answers.{grantForReads, servingGrant, slotAsked}
 use Rattle.soundness.specs.Validations.{layoutIfSound, layoutNamed}
-use Rattle.route.specs.Routes.{Grant, Serving, grantAt, grantIn, grantOf, grantWithLayout, iomodeFor, layoutIn, noReads, orElse, readThroughRw, served}
+use Rattle.route.specs.Routes.{Grant, Serving, grantAt, grantIn, grantOf, grantWithLayout, iomodeFor, layoutIn, noReads, readThroughRw, served}
 
 -- ---- a granted byte
 
@@ -100,13 +101,6 @@ grant-refused m (s ∷ l) x n e = go (within (s .first) (s .last) x) e (grant-re
 
 -- ---- what serves
 
--- what is taken out of the first of two, or else of the second
-pub given-or-else : {A B : Type 0} (a b : Answer A) (f : A → B)
-    → given (orElse a b) (λ v. accepted (f v)) ≡ orElse (given a (λ v. accepted (f v))) (given b (λ v. accepted (f v)))
-unfolding given
-given-or-else (accepted v) b f = refl
-given-or-else (refused n) b f = refl
-
 -- what serves is a grant of an iomode, with the layout body in its slot; for a write that iomode is RW
 pub record Serves (write : Bool) (t : Table) (store : List ℕ) (x : ℕ) (v : Serving) : Type 0 where
   pub mode : Mode
@@ -147,18 +141,13 @@ module _ (t : Table) (store : List ℕ) (x : ℕ) where
       go (refused n) f k = by-iomode false READ v (λ w. absurd (false≢true w)) k
 
   -- what serves a write serves a read too, where its layout has no flag 4
-  pub read-as-write : (v : Serving) → served true t store x ≡ accepted v → noReads (v .layout .summary .flags) ≡ false → served false t store x ≡ accepted v
+  pub write-serves-a-read : (v : Serving) → served true t store x ≡ accepted v → noReads (v .layout .summary .flags) ≡ false → served false t store x ≡ accepted v
   unfolding served readThroughRw given pick
-  read-as-write v e h = rw (e, h)
+  write-serves-a-read v e h = rw (e, h)
 
   -- where no grant serves, nothing does
   pub no-grant-serves : (write : Bool) (n : ℕ) → servingGrant write t store x ≡ refused n → served write t store x ≡ refused n
-  unfolding given
-  no-grant-serves write n e = go (served write t store x) e
-    where
-      go : (a : Answer Serving) → given a (λ v. accepted (v .grant)) ≡ refused n → a ≡ refused n
-      go (accepted v) k = never-refused (v .grant) n k
-      go (refused j) k = ap refused (same-refusal {A = Grant} j n k)
+  no-grant-serves write n e = given-refused (served write t store x) (λ v. v .grant) n e
 
 -- ---- limits
 
@@ -224,14 +213,14 @@ module _ (t : Table) (store : List ℕ) (s : sound t store ≡ true) where
       (ltb-true (g .slot) 8 h, named-in t store w m (g .slot) (named-at (listIn t m) (f .index) (g .slot) (f .in-list) (f .right)))
 
   -- the body under which a byte is granted is one that the layout body's reader accepts
-  pub body-accepted : (m : Mode) (x : ℕ) (g : Grant) → grantAt t m x ≡ accepted g → isAccepted (layoutIn store (g .slot)) ≡ true
+  body-accepted : (m : Mode) (x : ℕ) (g : Grant) → grantAt t m x ≡ accepted g → isAccepted (layoutIn store (g .slot)) ≡ true
   unfolding layoutIn
   body-accepted m x g e =
       let n = slot-named m x g e in
       named-sound t store (sounds t store s) (g .slot) (n .0) (n .1) .read
 
   -- and what the validation reads in that slot
-  pub body-if-sound : (m : Mode) (x : ℕ) (g : Grant) → grantAt t m x ≡ accepted g → layoutIfSound t store (g .slot) ≡ layoutIn store (g .slot)
+  body-if-sound : (m : Mode) (x : ℕ) (g : Grant) → grantAt t m x ≡ accepted g → layoutIfSound t store (g .slot) ≡ layoutIn store (g .slot)
   unfolding layoutIfSound layoutNamed layoutIn pick
   body-if-sound m x g e = let n = slot-named m x g e in rw (s, lt-ltb (g .slot) 8 (n .0), n .1)
 
@@ -261,54 +250,46 @@ module _ (t : Table) (store : List ℕ) (s : sound t store ≡ true) where
 
   -- the layout body under which a byte is granted
   pub layout-of : (m : Mode) (x : ℕ) (g : Grant) → grantAt t m x ≡ accepted g → (l : Layout) × (layoutIn store (g .slot) ≡ accepted l)
-  layout-of m x g e = go (layoutIn store (g .slot)) refl (body-accepted m x g e)
-    where
-      go : (a : Answer Layout) → layoutIn store (g .slot) ≡ a → isAccepted a ≡ true → (l : Layout) × (layoutIn store (g .slot) ≡ accepted l)
-      go (accepted l) f h = (l, f)
-      go (refused n) f h = absurd (false≢true h)
+  layout-of m x g e = accepted-value (layoutIn store (g .slot)) (body-accepted m x g e)
 
   -- a grant always has its layout
-  grant-alone : (m : Mode) (x : ℕ) → given (grantWithLayout t m store x) (λ v. accepted (v .grant)) ≡ grantAt t m x
+  grant-has-its-layout : (m : Mode) (x : ℕ) → given (grantWithLayout t m store x) (λ v. accepted (v .grant)) ≡ grantAt t m x
   unfolding grantWithLayout given
-  grant-alone m x = go (grantAt t m x) refl
+  grant-has-its-layout m x = go (grantAt t m x) refl
     where
       go : (a : Answer Grant) → grantAt t m x ≡ a → given (grantWithLayout t m store x) (λ v. accepted (v .grant)) ≡ a
       go (accepted g) e = rw (e, layout-of m x g e .1)
       go (refused n) e = rw e
 
-  -- the flags that its reader reads are those at its end
-  rw-alone : (x : ℕ) → given (readThroughRw t store x) (λ v. accepted (v .grant)) ≡ grantForReads store (grantAt t RW x)
-  unfolding readThroughRw grantWithLayout grantForReads layoutIn given pick
-  rw-alone x = go (grantAt t RW x) refl
+  -- the grant of RW that serves reads is the one without flag 4 at its body's end
+  rw-grant-for-reads : (x : ℕ) → given (readThroughRw t store x) (λ v. accepted (v .grant)) ≡ grantForReads store (grantAt t RW x)
+  unfolding readThroughRw grantWithLayout grantForReads layoutIn given
+  rw-grant-for-reads x = go (grantAt t RW x) refl
     where
-      flag : (b : Bool) (v : Serving) → given {B = Grant} (pick b (refused 17) (accepted v)) (λ v. accepted (v .grant)) ≡ pick b (refused 17) (accepted (v .grant))
-      flag true v = refl
-      flag false v = refl
-
       go : (a : Answer Grant) → grantAt t RW x ≡ a → given (readThroughRw t store x) (λ v. accepted (v .grant)) ≡ grantForReads store a
       go (accepted g) e =
           let l = layout-of RW x g e in
           let k = flags-at-end (bodyIn (slotAt store (g .slot))) (l .0) (l .1) in
-          rw (e, l .1, k) (flag (noReads (l .0 .summary .flags)) (record { grant = g; layout = l .0 }))
+          rw (e, l .1, k) (given-pick (noReads (l .0 .summary .flags)) 17 (record { grant = g; layout = l .0 }) (λ v. accepted (v .grant)))
       go (refused n) e = rw e
 
   -- a write is served by the grant of RW
   pub write-grant : (write : Bool) (x : ℕ) → write ≡ true → servingGrant write t store x ≡ grantAt t RW x
   unfolding served
-  write-grant write x h = rw h (grant-alone RW x)
+  write-grant write x h = rw h (grant-has-its-layout RW x)
 
   -- and a read by the grant of RW, unless flag 4 is at the end of its body, else by that of READ
   pub read-grant : (write : Bool) (x : ℕ) → write ≡ false → servingGrant write t store x ≡ orElse (grantForReads store (grantAt t RW x)) (grantAt t READ x)
   unfolding served
   read-grant write x h =
-      rw (h, ← rw-alone x, ← grant-alone READ x) (given-or-else (readThroughRw t store x) (grantWithLayout t READ store x) (λ v. v .grant))
+      rw (h, ← rw-grant-for-reads x, ← grant-has-its-layout READ x) (given-or-else (readThroughRw t store x) (grantWithLayout t READ store x) (λ v. v .grant))
 
   -- ---- refusals
 
   with-layout-refused : (m : Mode) (x n : ℕ) → grantWithLayout t m store x ≡ refused n → n ≡ 17
   unfolding given
   with-layout-refused m x n h =
-      grant-refused (iomodeFor m) (listIn t m) x n (sym (grant-alone m x) ∙ ap (λ (a : Answer Serving). given a (λ v. accepted (v .grant))) h)
+      grant-refused (iomodeFor m) (listIn t m) x n (sym (grant-has-its-layout m x) ∙ ap (λ (a : Answer Serving). given a (λ v. accepted (v .grant))) h)
 
   -- a request that is not served is refused with 17
   pub served-refused : (write : Bool) (x n : ℕ) → served write t store x ≡ refused n → n ≡ 17

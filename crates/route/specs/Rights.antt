@@ -3,13 +3,13 @@
 use Prim.Native.Nat.{ℕ}
 use mathlib.Core.Bool.{Bool, true, false}
 use mathlib.Core.List.{List}
-use Rattle.base.specs.Answer.{Answer, accepted, refused, given, pick}
+use Rattle.base.specs.Answer.{Answer, accepted, refused, given, orElse, pick}
 use Rattle.base.specs.declared.iomode.Iomode.{Iomode}
 use Rattle.base.specs.declared.iomode.Iomode.the-variants.{Read, ReadWrite}
 use Rattle.layout.specs.Layouts.{layoutBody}
 use Rattle.store.specs.Store.{Body, bodyIn, slotAt}
 use Rattle.model.specs.Model.{ByteRight, none, granted, recalled}
-use Rattle.route.specs.Routes.{noReads, orElse}
+use Rattle.route.specs.Routes.{noReads}
 use Rattle.route.specs.declared.piece.Piece.{Piece}
 
 -- the iomode and the layout body that serve

@@ -3,7 +3,7 @@ use Prim.Native.Nat.{ℕ, _+_, _%_, _<_}
 use mathlib.Core.Path.{_≡_}
 use mathlib.Core.Bool.{Bool, true, false}
 use mathlib.Core.List.{List, [], _∷_}
-use Rattle.base.specs.Answer.{Answer, accepted, refused, given, pick}
+use Rattle.base.specs.Answer.{Answer, accepted, refused, given, orElse, pick}
 use Rattle.base.specs.Bits.{bit}
 use Rattle.base.specs.Ranges.{requestLast}
 use Rattle.base.specs.declared.iomode.Iomode.{Iomode}
@@ -48,11 +48,6 @@ abbrev pub grantAt : Table → Mode → ℕ → Answer Grant
 grantAt t m x = grantIn (iomodeFor m) (listIn t m) x
 
 -- ---- what serves
-
--- the first, where it is not refused; else the second
-abbrev pub orElse : {A : Type 0} → Answer A → Answer A → Answer A
-orElse (accepted a) next = accepted a
-orElse (refused n) next = next
 
 -- flag 4, the bit of that value: "no reads on a read-write layout"; flag 8: "write one mirror"
 abbrev pub noReads : ℕ → Bool

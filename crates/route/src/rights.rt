@@ -10,7 +10,7 @@ ghost use mathlib.Core.Path.{_≡_};
 ghost use mathlib.Core.Bool.{true};
 ghost use Rattle.segments.specs.Segments.{listOf, within};
 ghost use Rattle.soundness.specs.Sound.{sound};
-ghost use Rattle.route.specs.Answers.{answerOfGrant, servingGrant, slotAsked, grantForReads};
+ghost use Rattle.route.specs.Answers.{answerOfGrant, grantForReads, servingGrant, slotAsked};
 ghost use Rattle.route.specs.Routes.{grantIn, grantOf};
 
 // A granted segment: its iomode, the slot of its body, and its last byte.

@@ -40,7 +40,8 @@ pub fn reads_in_both(random: &mut Random, state: &State, most: usize) -> Vec<Tab
     (0..count).map(|_| TableCase::Locate(read_in_both(random, &meeting))).collect()
 }
 
-/// A read from a byte of two segments, up to the end of one of them or past it.
+/// A read from a byte of two segments to about the end of one of them; it may
+/// be empty.
 fn read_in_both(random: &mut Random, meeting: &[[Segment; 2]]) -> IoRequest {
     let [one, other] = random.pick(meeting);
     let (first, last) = (one.first.max(other.first), one.last.min(other.last));

@@ -190,8 +190,8 @@ impl EventSource {
         Event::Grant(if random.once_in(30) { random.one_byte_changed(&bytes) } else { bytes })
     }
 
-    /// A grant that meets a segment of the other iomode; where there is no
-    /// segment yet, one to be met.
+    /// A grant at, beside or inside a segment of the other iomode; where there
+    /// is no segment yet, one to be met.
     fn grant_over(&self, random: &mut Random) -> Event {
         let iomode = random.pick(&Iomode::BOTH);
         let segments = self.state.table.segments(iomode);

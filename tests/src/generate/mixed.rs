@@ -121,7 +121,7 @@ fn layout_plan(random: &mut Random) -> LayoutPlan {
         }
     }
     if random.once_in(60) {
-        // One server more than the mirrors before it have.
+        // One server more in the last mirror: with more than one mirror that is 9.
         plan.mirrors[mirrors - 1].push(server_plan(random));
     }
     plan

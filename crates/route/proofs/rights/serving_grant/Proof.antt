@@ -1,8 +1,8 @@
 -- `route::rights::serving_grant` meets its contract: a write by RW; a read by RW where it serves reads, else by READ.
-use Rattle.base.specs.Answer.{Answer}
+use Rattle.base.specs.Answer.{Answer, orElse}
 use Rattle.route.proofs.ServedLaws.{read-grant, write-grant}
 use Rattle.route.specs.Answers.{answerOfGrant, grantForReads}
-use Rattle.route.specs.Routes.{Grant, grantAt, orElse}
+use Rattle.route.specs.Routes.{Grant, grantAt}
 use Rattle.segments.specs.Segments.{READ}
 use Rattle.xdr.proofs.Steps.{by-case}
 use borrow.Author.Needs.{needs}
