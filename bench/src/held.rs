@@ -49,6 +49,11 @@ impl Held {
         Held { segments, slots, in_both: true, ..Held::after(rw.chain(read)) }
     }
 
+    /// One segment of RW, from byte 0 on, under this body.
+    pub fn under(body: &[u8]) -> Self {
+        Held { segments: 1, slots: 1, ..Held::after([granted(IOMODE_RW, 0, body)].into_iter()) }
+    }
+
     fn after(grants: impl Iterator<Item = Event>) -> Self {
         let mut state = State::default();
         let (mut core, mut core_store) = (raw::empty_table(), state.store.clone());
@@ -64,8 +69,10 @@ impl Held {
     }
 
     pub fn name(&self) -> String {
-        let segments = if self.in_both { "segments in each" } else { "segments" };
-        format!("{} {segments}, {} slot{}", self.segments, self.slots, if self.slots == 1 { "" } else { "s" })
+        let plural = |count| if count == 1 { "" } else { "s" };
+        let each = if self.in_both { " in each" } else { "" };
+        let Held { segments, slots, .. } = self;
+        format!("{segments} segment{}{each}, {slots} slot{}", plural(*segments), plural(*slots))
     }
 }
 

@@ -2,9 +2,9 @@
 //! wire to where an I/O goes: the other side of a differential test.
 //!
 //! It is written from the scope paper ("01" in the comments), the change
-//! requests ("C-11") and RFC 8435, never from the sources under `crates/`.
-//! Where both sides print the same line for a case, two readings of the papers
-//! agree.
+//! requests ("C-11", "C-12") and RFC 8435, never from the sources under
+//! `crates/`. Where both sides print the same line for a case, two readings of
+//! the papers agree.
 //!
 //! Words of 01 are used in quotes of it only. Its "spoken versions" are
 //! [`binding::SupportedVersions`], its "shelf" is the [`store`], its "ledger"

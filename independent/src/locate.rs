@@ -34,13 +34,14 @@ pub fn locate(table: &Table, store: &[u8], request: &IoRequest) -> Result<Locati
     check_sound(table, store)?;
     check_io_range(request.offset, request.length)?;
     let source = source_of(table, store, request).ok_or(Refusal::RightLacking)?;
+    let stripe = stripe_of(&source.layout, request.offset);
     Ok(Location {
         iomode: source.iomode,
         slot: source.slot,
-        stripe: stripe_of(&source.layout, request.offset),
+        stripe,
         offset: request.offset,
         length: piece_length(&source, request),
-        mirrors: mirrors_of(&source, request.direction)?,
+        mirrors: mirrors_of(&source, request.direction, stripe)?,
     })
 }
 
@@ -101,21 +102,22 @@ fn piece_length(source: &Source, request: &IoRequest) -> u64 {
 
 /// "A read names one mirror", "A write names all mirrors, as a set of bits, or
 /// with flag 8 only the mirror that this same rule picks in the write's own
-/// body."
-fn mirrors_of(source: &Source, direction: Direction) -> Result<u32, Refusal> {
+/// body." The stripe is that of the request's first byte.
+fn mirrors_of(source: &Source, direction: Direction, stripe: u32) -> Result<u32, Refusal> {
     let layout = &source.layout;
     if direction == Direction::Write && layout.flags & WRITE_ONE_MIRROR == 0 {
         return Ok((1 << layout.mirrors) - 1);
     }
-    Ok(1 << best_mirror(source.body, layout)?)
+    Ok(1 << best_mirror(source.body, layout, stripe)?)
 }
 
 /// "the highest efficiency, lowest number on a tie; each mirror is judged by
-/// the efficiency of its first data server"
-fn best_mirror(body: &[u8], layout: &LayoutSummary) -> Result<u32, Refusal> {
-    // Every mirror of an accepted body has a first server.
+/// the efficiency of the server that holds the stripe of the request's first
+/// byte" (C-12)
+fn best_mirror(body: &[u8], layout: &LayoutSummary, stripe: u32) -> Result<u32, Refusal> {
+    // Every mirror of an accepted body has a server for each stripe.
     let efficiency =
-        |mirror| -> Result<u32, Refusal> { Ok(read_server_at(body, layout.start(mirror, 0)?)?.efficiency) };
+        |mirror| -> Result<u32, Refusal> { Ok(read_server_at(body, layout.start(mirror, stripe)?)?.efficiency) };
     let mut best = 0;
     for mirror in 1..layout.mirrors {
         if efficiency(mirror)? > efficiency(best)? {
@@ -127,6 +129,8 @@ fn best_mirror(body: &[u8], layout: &LayoutSummary) -> Result<u32, Refusal> {
 
 #[cfg(test)]
 mod tests {
+    mod mirrors_by_stripe;
+
     use super::*;
     use crate::event::Event;
     use crate::iomode::{IOMODE_READ, IOMODE_RW};
@@ -310,15 +314,17 @@ mod tests {
         }
     }
 
-    /// READ: units of 7 on two servers, mirror 0 the best. RW: units of 10 on
-    /// three servers, mirror 1 the best. Byte 25 is in READ's unit 3, up to 27,
-    /// and in RW's unit 2, up to 29.
+    /// READ: units of 7 on two servers. Byte 25 is in unit 3, up to 27, at
+    /// stripe 1, where the mirrors have 2^32 - 10, 2^32 - 2 and 2^32 - 2: mirror
+    /// 1. RW: units of 10 on three servers. Byte 25 is in unit 2, up to 29, at
+    /// stripe 2, where the mirrors have 2^32 - 2 and 2^32 - 3: mirror 0. The
+    /// first servers would give mirror 0 in READ's body and mirror 1 in RW's.
     #[test]
     fn stripe_and_mirror_are_those_of_the_body_that_serves() {
         let read = LayoutPlan { unit: 7, ..with_efficiencies(LayoutPlan::plain(3, 2), &[9, 1, 1]) };
         let write = LayoutPlan { unit: 10, ..with_efficiencies(LayoutPlan::plain(2, 3), &[1, 2]) };
-        let through_read = Location { iomode: Iomode::Read, slot: 0, stripe: 1, offset: 25, length: 3, mirrors: 1 };
-        let through_rw = Location { iomode: Iomode::ReadWrite, slot: 1, stripe: 2, offset: 25, length: 5, mirrors: 2 };
+        let through_read = Location { iomode: Iomode::Read, slot: 0, stripe: 1, offset: 25, length: 3, mirrors: 2 };
+        let through_rw = Location { iomode: Iomode::ReadWrite, slot: 1, stripe: 2, offset: 25, length: 5, mirrors: 1 };
         for (flags, rw_events, expected) in [(0, 1, through_rw), (4, 1, through_read), (0, 2, through_read)] {
             let write = LayoutPlan { flags, ..write.clone() };
             let rw = [granted(2, 0, LAST_BYTE, &write), recall(2, 0, LAST_BYTE)];
@@ -327,30 +333,34 @@ mod tests {
         }
     }
 
+    /// The mirror named at stripe 0 and at stripe 1, where the lowest of these
+    /// numbers is the highest; with one server both bytes are at stripe 0.
     #[test]
     fn the_best_mirror() {
         let patterns = [
-            (&[5][..], 1),
-            (&[1, 1], 1),
-            (&[1, 2], 2),
-            (&[3, 9, 9], 2),
-            (&[9, 3, 9], 1),
-            (&[1, 1 << 31], 2),
-            (&[u32::MAX, 1, u32::MAX], 1),
-            (&[255, 256, 1], 2),
-            (&[1, 2, 3, 4, 5, 6, 7, 8], 128),
-            (&[0; 8], 1),
+            (&[5][..], 1, 1),
+            (&[1, 1], 1, 1),
+            (&[1, 2], 2, 1),
+            (&[3, 9, 9], 2, 1),
+            (&[9, 3, 9], 1, 2),
+            (&[1, 1 << 31], 2, 1),
+            (&[u32::MAX, 1, u32::MAX], 1, 2),
+            (&[255, 256, 1], 2, 4),
+            (&[1, 2, 3, 4, 5, 6, 7, 8], 128, 1),
+            (&[0; 8], 1, 1),
         ];
-        for (efficiencies, best) in patterns {
-            let all = (1 << efficiencies.len()) - 1;
-            for (servers, flags, written) in [(1, 0, all), (2, 7, all), (1, 8, best), (2, 15, best)] {
+        for (efficiencies, first, second) in patterns {
+            for (servers, flags) in [(1, 0), (2, 7), (1, 8), (2, 15)] {
                 let plain = LayoutPlan::plain(efficiencies.len(), servers);
                 let plan = LayoutPlan { flags, ..with_efficiencies(plain, efficiencies) };
                 let events = [IOMODE_READ, IOMODE_RW].map(|m| granted(m, 0, LAST_BYTE, &plan));
                 let state = after(&events);
                 let mirrors = |request| state.locate(&request).unwrap().mirrors;
-                assert_eq!(mirrors(IoRequest::read(4_096, 1)), best);
-                assert_eq!(mirrors(IoRequest::write(4_096, 1)), written);
+                for (offset, best) in [(4_095, first), (4_096, if servers == 1 { first } else { second })] {
+                    let all = (1 << efficiencies.len()) - 1;
+                    assert_eq!(mirrors(IoRequest::read(offset, 1)), best);
+                    assert_eq!(mirrors(IoRequest::write(offset, 1)), if flags & 8 == 0 { all } else { best });
+                }
             }
         }
     }

@@ -34,11 +34,12 @@ static inline void put_opaque(struct bytes *b, const char *text)
 }
 
 /* Every data server has the same device id and stateid (16 times one byte), user and group, and as many filehandles of
- * one length: "a", "b", and so on, or longer. Mirror m has the efficiency efficiency[m]. */
+ * one length: "a", "b", and so on, or longer. That of mirror m and stripe k has the efficiency efficiency[m][k]; there
+ * is one for each that a body may have, and for one mirror and one data server too many. */
 struct layout_plan {
     uint64_t unit;
     uint32_t mirrors, servers, handles, handle_length, flags, hint;
-    uint32_t efficiency[16];
+    uint32_t efficiency[9][17];
     uint8_t device, stateid;
     const char *user, *group;
 };
@@ -47,10 +48,10 @@ struct layout_plan {
 static const struct layout_plan smallest = {
     .mirrors = 1, .servers = 1, .handles = 1, .handle_length = 1, .device = 1, .user = "", .group = ""};
 
-static inline void put_server(struct bytes *b, const struct layout_plan *p, uint32_t mirror)
+static inline void put_server(struct bytes *b, const struct layout_plan *p, uint32_t efficiency)
 {
     put_copies(b, p->device, 16);
-    put(b, p->efficiency[mirror], 4);
+    put(b, efficiency, 4);
     put_copies(b, p->stateid, 16);
     put(b, p->handles, 4);
     for (uint32_t i = 0; i < p->handles; i++) {
@@ -71,7 +72,7 @@ static inline struct bytes layout_body(struct layout_plan p)
     for (uint32_t mirror = 0; mirror < p.mirrors; mirror++) {
         put(&b, p.servers, 4);
         for (uint32_t stripe = 0; stripe < p.servers; stripe++)
-            put_server(&b, &p, mirror);
+            put_server(&b, &p, p.efficiency[mirror][stripe]);
     }
     put(&b, p.flags, 4);
     put(&b, p.hint, 4);

@@ -433,8 +433,8 @@ static void test_mirrors(void)
     struct file all = new_file(), one = new_file(), unread = new_file();
 
     p.mirrors = 3;
-    p.efficiency[0] = 5;
-    p.efficiency[1] = p.efficiency[2] = 9;
+    p.efficiency[0][0] = 5;
+    p.efficiency[1][0] = p.efficiency[2][0] = 9;
     one_mirror = no_reads = p;
     one_mirror.flags = 8;
     no_reads.flags = 4;
@@ -445,6 +445,44 @@ static void test_mirrors(void)
     CHECK(locate_read(&one, 0, 1).mirrors == 2 && locate_write(&one, 0, 1).mirrors == 2);
     CHECK(locate_read(&unread, 0, 1).refusal == 17 && locate_write(&unread, 0, 1).mirrors == 7);
     CHECK(locate_write(&all, 90, 20).length == 10);
+}
+
+/* Units of 10 bytes on three servers a mirror. The best server is mirror 2's in stripe 0, mirror 0's in stripe 1 (a
+ * number that is negative if signed) and, of a tie between 1 and 2, mirror 1's in stripe 2. With mirror and stripe
+ * exchanged each answer would be another. */
+static const struct layout_plan best_by_stripe = {
+    .unit = 10, .mirrors = 3, .servers = 3, .handles = 1, .handle_length = 1, .device = 1, .user = "", .group = "",
+    .efficiency = {{8, UINT32_MAX, 0}, {1, 5, 7}, {9, 1, 7}}};
+
+/* The mirrors of a request of 30 bytes that begins at the first, then at the last byte of each of four units. */
+static int mirrors_are(struct file *f, int write, uint32_t first, uint32_t second, uint32_t third)
+{
+    const uint32_t expected[4] = {first, second, third, first};
+    int right = 1;
+
+    for (uint64_t unit = 0; unit < 4; unit++) {
+        for (uint64_t at = 10 * unit; at < 10 * unit + 10; at += 9) {
+            struct basilothyn_locate_result r = write ? locate_write(f, at, 30) : locate_read(f, at, 30);
+
+            right &= r.refusal == 0 && r.stripe == unit % 3 && r.length == 10 - at % 10 && r.mirrors == expected[unit];
+        }
+    }
+    return right;
+}
+
+/* A mirror is judged by its server of the stripe of the request's first byte: in a read, and in a write with flag 8. */
+static void test_mirrors_by_stripe(void)
+{
+    struct layout_plan all = best_by_stripe, one = best_by_stripe;
+    struct file read = new_file(), rw = new_file(), one_mirror = new_file();
+
+    one.flags = 8;
+    CHECK(grant(&read, 0, WHOLE, BASILOTHYN_READ, all) == 0);
+    CHECK(grant(&rw, 0, WHOLE, BASILOTHYN_RW, all) == 0);
+    CHECK(grant(&one_mirror, 0, WHOLE, BASILOTHYN_RW, one) == 0);
+    CHECK(mirrors_are(&read, 0, 4, 1, 2));
+    CHECK(mirrors_are(&rw, 0, 4, 1, 2) && mirrors_are(&rw, 1, 7, 7, 7));
+    CHECK(mirrors_are(&one_mirror, 0, 4, 1, 2) && mirrors_are(&one_mirror, 1, 4, 1, 2));
 }
 
 /* ---- error reports */
@@ -565,6 +603,7 @@ int main(void)
     test_stripes();
     test_reads();
     test_mirrors();
+    test_mirrors_by_stripe();
     test_written(0, 0, 8);
     test_written(1, 1, 68);
     test_written(8, 16, 3368);

@@ -1,14 +1,20 @@
 //! What the case files reach: every refusal number of this part often enough,
-//! every kind of case both accepted and refused, and every choice between the
-//! iomodes that serve a read.
+//! every kind of case both accepted and refused, every choice between the
+//! iomodes that serve a read, and every situation in which mirrors are judged.
 
+#[path = "support/mirrors.rs"]
+mod mirrors;
 #[path = "support/reads.rs"]
 mod reads;
+#[path = "support/requests.rs"]
+mod requests;
 
 use case_files::generate::{mixed::random_file, stored::stored_file};
 use independent::answers::answer_file;
+use mirrors::{situations_of_requests, Situation};
 use reads::{rights_of_reads, Rights};
 use std::collections::{BTreeMap, BTreeSet};
+use std::fmt::Debug;
 
 /// The numbers of 01's table that belong to the wire part.
 const WIRE_NUMBERS: [u32; 18] = [1, 2, 3, 4, 5, 6, 7, 8, 9, 10, 11, 12, 13, 14, 15, 16, 26, 27];
@@ -107,12 +113,21 @@ fn assert_requests_vary(answers: &str) {
     }
 }
 
-/// Reads at whose first byte READ and RW are in each of their situations.
-fn assert_each_choice_comes(counts: &BTreeMap<Rights, usize>) {
-    for rights in Rights::TOLD {
-        let count = counts.get(&rights).copied().unwrap_or(0);
-        assert!(count >= 10, "{rights:?} comes {count} times");
+/// Each situation comes at least ten times.
+fn assert_each_comes<S: Ord + Debug>(counts: &BTreeMap<S, usize>, situations: &[S]) {
+    for situation in situations {
+        let count = counts.get(situation).copied().unwrap_or(0);
+        assert!(count >= 10, "{situation:?} comes {count} times");
     }
+}
+
+/// The sums over the files that the gate puts to the proved program.
+fn over_random_files<S: Ord>(count: fn(&[u8]) -> BTreeMap<S, usize>) -> BTreeMap<S, usize> {
+    let mut sums = BTreeMap::new();
+    for (situation, times) in (1..=24).flat_map(|seed| count(&random_file(seed, 500))) {
+        *sums.entry(situation).or_default() += times;
+    }
+    sums
 }
 
 #[test]
@@ -125,15 +140,21 @@ fn the_stored_file_reaches_every_refusal_often() {
     assert_requests_vary(&answers);
 }
 
+/// Both files are in the repository and are read whole, so cases are added for
+/// what no other one asks, and a bound is raised only for such.
 #[test]
 fn the_stored_file_is_small_and_ends_properly() {
     let file = stored_file().expect("the captures");
     let answers = answer_file(&file);
-    assert!(file.len() < 1_500_000, "{} bytes of cases", file.len());
+    assert!(file.len() < 1_600_000, "{} bytes of cases", file.len());
     assert!(answers.len() < 900_000, "{} bytes of answers", answers.len());
     assert!(answers.ends_with(&format!("\nend {}\n", file.len())));
 }
 
+/// Measured over such files of seeds 1 to 40: a number of the wire comes at
+/// least 25 times (7), one of the table at least 117 times (22), 23 comes 351 to
+/// 756 times, and a revoke is refused at least 43 times. So the bounds do not
+/// hang on the seed.
 #[test]
 fn random_files_reach_every_refusal() {
     let answers = answer_file(&random_file(1, 40_000));
@@ -145,17 +166,20 @@ fn random_files_reach_every_refusal() {
 
 #[test]
 fn the_stored_file_reaches_every_choice_of_iomode() {
-    assert_each_choice_comes(&rights_of_reads(&stored_file().expect("the captures")));
+    assert_each_comes(&rights_of_reads(&stored_file().expect("the captures")), &Rights::TOLD);
 }
 
-/// The files that the gate puts to the proved program.
 #[test]
 fn random_files_reach_every_choice_of_iomode() {
-    let mut counts = BTreeMap::new();
-    for seed in 1..=24 {
-        for (rights, count) in rights_of_reads(&random_file(seed, 500)) {
-            *counts.entry(rights).or_default() += count;
-        }
-    }
-    assert_each_choice_comes(&counts);
+    assert_each_comes(&over_random_files(rights_of_reads), &Rights::TOLD);
+}
+
+#[test]
+fn the_stored_file_reaches_every_choice_of_mirror() {
+    assert_each_comes(&situations_of_requests(&stored_file().expect("the captures")), &Situation::ALL);
+}
+
+#[test]
+fn random_files_reach_every_choice_of_mirror() {
+    assert_each_comes(&over_random_files(situations_of_requests), &Situation::ALL);
 }

@@ -10,7 +10,6 @@ use independent::iomode::Iomode;
 use independent::locate::Location;
 use independent::model_slots::BodyRight;
 use independent::range::LAST_BYTE;
-use independent::samples::bodies::with_efficiencies;
 use independent::samples::bodies::LayoutPlan;
 use independent::samples::events::{grant, layout_return, recall};
 use independent::samples::random::Random;
@@ -25,29 +24,32 @@ const EVENTS_A_LIST: usize = 30;
 /// Every so many events all requests are made.
 const EVENTS_A_LOOK: usize = 6;
 
-/// Unit, servers, efficiencies of the mirrors, and flags.
-const LAYOUTS: [(u64, usize, &[u32], u32); 8] = [
-    (3, 2, &[1, 2], 0),
-    (5, 3, &[4, 4], 8),
-    (1, 4, &[0], 4),
-    (0, 1, &[9, 1, 9], 12),
-    (7, 5, &[1, 1, 2], 0),
-    (0, 1, &[1], 0),
-    (64, 2, &[2, 3], 8),
-    (10, 3, &[1], 7),
+/// A layout: its unit, the efficiencies of its mirrors, each with a number for
+/// each server, and its flags.
+type Layout = (u64, &'static [&'static [u32]], u32);
+
+/// In most of them the best mirror changes with the stripe.
+const LAYOUTS: [Layout; 8] = [
+    (3, &[&[1, 9], &[2, 8]], 0),
+    (5, &[&[4, 0, 7], &[4, 1, 7]], 8),
+    (1, &[&[0, 1, 2, 3]], 4),
+    (0, &[&[9], &[1], &[9]], 12),
+    (7, &[&[1, 5, 0, 1 << 31, 3], &[1, 6, 0, 9, u32::MAX], &[2, 6, 0, 9, 0]], 0),
+    (0, &[&[1]], 0),
+    (64, &[&[2, 3], &[3, 2]], 8),
+    (10, &[&[1, 2, 1], &[1, 3, 0]], 15),
 ];
 
 /// The hint, and so the body's last byte, is the layout's number.
 fn body(number: usize) -> Vec<u8> {
-    let (unit, servers, efficiencies, flags) = LAYOUTS[number];
-    let plain = LayoutPlan::plain(efficiencies.len(), servers);
-    let plan = LayoutPlan { unit, flags, hint: number as u32, ..plain };
-    with_efficiencies(plan, efficiencies).encode().bytes
+    let (unit, mirrors, flags) = LAYOUTS[number];
+    LayoutPlan { unit, flags, hint: number as u32, ..LayoutPlan::of_efficiencies(mirrors) }.encode().bytes
 }
 
 /// For every byte the number of its unit and its server, by counting up.
 fn counted(number: usize) -> Vec<(u32, u32)> {
-    let (unit, servers, ..) = LAYOUTS[number];
+    let (unit, mirrors, _) = LAYOUTS[number];
+    let servers = mirrors[0].len();
     let (mut unit_number, mut server, mut used) = (0, 0, 0);
     let mut bytes = Vec::new();
     while bytes.len() < SIZE + MOST {
@@ -62,12 +64,15 @@ fn counted(number: usize) -> Vec<(u32, u32)> {
     bytes
 }
 
-/// The mirrors as bits; the best one is the first that no other beats.
-fn chosen_mirrors(number: usize, direction: Direction) -> u32 {
-    let (_, _, efficiencies, flags) = LAYOUTS[number];
-    let best = efficiencies.iter().position(|one| efficiencies.iter().all(|other| other <= one));
+/// The mirrors as bits; the best one is the first that no other beats. "each
+/// mirror is judged by the efficiency of the server that holds the stripe of
+/// the request's first byte" (C-12)
+fn chosen_mirrors(number: usize, direction: Direction, stripe: u32) -> u32 {
+    let (_, mirrors, flags) = LAYOUTS[number];
+    let judged: Vec<u32> = mirrors.iter().map(|servers| servers[stripe as usize]).collect();
+    let best = judged.iter().position(|one| judged.iter().all(|other| other <= one));
     let is_chosen = |mirror: usize| (direction == Direction::Write && flags & 8 == 0) || Some(mirror) == best;
-    (0..efficiencies.len()).filter(|&mirror| is_chosen(mirror)).map(|mirror| 1 << mirror).sum()
+    (0..mirrors.len()).filter(|&mirror| is_chosen(mirror)).map(|mirror| 1 << mirror).sum()
 }
 
 /// The number of the layout that a byte is granted under.
@@ -86,7 +91,7 @@ fn serving(both: &SideBySide, direction: Direction, byte: u64) -> Option<(Iomode
         let serves = match (direction, iomode) {
             (Direction::Write, _) => iomode == Iomode::ReadWrite,
             (Direction::Read, Iomode::Read) => true,
-            (Direction::Read, Iomode::ReadWrite) => LAYOUTS[number].3 & 4 == 0,
+            (Direction::Read, Iomode::ReadWrite) => LAYOUTS[number].2 & 4 == 0,
         };
         serves.then_some((iomode, number))
     })
@@ -102,7 +107,7 @@ fn expected(both: &SideBySide, request: &IoRequest) -> Option<Location> {
     let belongs = |byte: &u64| bytes[*byte as usize].0 == unit_number && both.model.right_at(iomode, *byte) == right;
     let length = (offset..offset + length).take_while(belongs).count() as u64;
     let slot = both.model.slots().number_of(right.body()?)?;
-    let mirrors = chosen_mirrors(number, direction);
+    let mirrors = chosen_mirrors(number, direction, stripe);
     Some(Location { iomode, slot, stripe, offset, length, mirrors })
 }
 
@@ -162,6 +167,27 @@ fn requests_by_the_model() {
     assert!(answers.values().all(|&count| count >= 1_000), "{answers:?}");
 }
 
+/// Reads and writes of one mirror that name another one than the first servers
+/// would give.
+#[test]
+fn mirrors_change_with_the_stripe() {
+    let mut moved = BTreeMap::new();
+    for_each_look(|both| {
+        for direction in Direction::BOTH {
+            for (offset, length) in requests() {
+                let Ok(found) = both.state.locate(&IoRequest { direction, offset, length }) else { continue };
+                let number = granted_layout(both, found.iomode, offset).expect("a layout");
+                if found.mirrors != chosen_mirrors(number, direction, 0) {
+                    *moved.entry((direction.name(), found.iomode.number())).or_insert(0) += 1;
+                }
+            }
+        }
+    });
+    let reached: Vec<_> = moved.keys().copied().collect();
+    assert_eq!(reached, [("read-at", 1), ("read-at", 2), ("write-at", 2)]);
+    assert!(moved.values().all(|&count| count >= 1_000), "{moved:?}");
+}
+
 /// Where RW is granted under a body without flag 4, a read goes where a write
 /// of the same bytes goes, to one of its mirrors, whatever READ is there.
 #[test]
@@ -170,7 +196,7 @@ fn reads_go_where_writes_go() {
     for_each_look(|both| {
         for (offset, length) in requests() {
             let granted = granted_layout(both, Iomode::ReadWrite, offset);
-            if granted.is_none_or(|number| LAYOUTS[number].3 & 4 != 0) {
+            if granted.is_none_or(|number| LAYOUTS[number].2 & 4 != 0) {
                 continue;
             }
             let [read, write] = Direction::BOTH.map(|direction| {

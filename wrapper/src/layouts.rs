@@ -18,7 +18,9 @@ pub struct Piece {
     pub offset: u64,
     /// How many bytes the answer is good for; for the rest ask again after them.
     pub length: u64,
-    /// The mirrors: of a read one, though any other of the layout may serve it too.
+    /// The mirrors: of a write all, or with flag 8 one; of a read one. The one is that whose data server of this stripe
+    /// has the highest efficiency, the lowest number on a tie, so it may differ from piece to piece. Any other of the
+    /// layout may serve a read too, but for bytes that were written under flag 8 and are not yet committed.
     pub mirrors: MirrorSet,
 }
 

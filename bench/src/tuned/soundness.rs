@@ -21,10 +21,25 @@ impl Named<'_> {
 
 /// What the named slots hold, or 20.
 pub fn sound<'a>(table: &Table, store: &'a [u8]) -> Result<Named<'a>, u32> {
-    validate(table, store).ok_or(20)
+    sound_by(table, store, |_, body| accepts(body))
 }
 
-fn validate<'a>(table: &Table, store: &'a [u8]) -> Option<Named<'a>> {
+/// The same, where the bodies are read by a reader of the caller's, with their slots; what it accepts is to be what `accepts` does.
+#[inline(always)]
+pub fn sound_by<'a>(
+    table: &Table,
+    store: &'a [u8],
+    read: impl FnMut(usize, &'a [u8]) -> Result<(), u32>,
+) -> Result<Named<'a>, u32> {
+    validate(table, store, read).ok_or(20)
+}
+
+#[inline(always)]
+fn validate<'a>(
+    table: &Table,
+    store: &'a [u8],
+    mut read: impl FnMut(usize, &'a [u8]) -> Result<(), u32>,
+) -> Option<Named<'a>> {
     if store.len() != STORE {
         return None;
     }
@@ -33,7 +48,7 @@ fn validate<'a>(table: &Table, store: &'a [u8]) -> Option<Named<'a>> {
     for (number, slot) in store.as_chunks::<SLOT>().0.iter().enumerate() {
         if slots & 1 << number != 0 {
             let body = body_in(slot)?;
-            accepts(body).ok()?;
+            read(number, body).ok()?;
             if bodies[..number].contains(&body) {
                 return None;
             }

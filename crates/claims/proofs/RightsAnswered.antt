@@ -22,7 +22,7 @@ use Rattle.model.specs.Claim.{rightIn}
 use Rattle.soundness.specs.Sound.{sound}
 use Rattle.route.specs.Mirrors.{bestMirror, efficiencyOf, only}
 use Rattle.route.specs.Rights.{ServedUnder, byGrant, readsByRw, servedByRights, servedOf}
-use Rattle.route.specs.Routes.{layoutIn, noReads, oneMirror, pieceAt, routed}
+use Rattle.route.specs.Routes.{layoutIn, noReads, oneMirror, pieceAt, routed, stripeIn}
 use Rattle.route.specs.declared.piece.Piece.{Piece}
 use Rattle.route.proofs.MirrorLaws.{all-named, one-named}
 use Rattle.route.proofs.PieceLaws.{by-parts, its-layout, its-mirrors}
@@ -156,8 +156,8 @@ read-as-written t store offset len p l e h f =
     let slot : v .grant .slot ≡ p .slot .0 = ap (λ (x : Piece). x .slot .0) same in
     let at-slot : layoutIn store (q .slot .0) ≡ accepted l = ap (λ (i : ℕ). layoutIn store i) slot ∙ h in
     let named = its-mirrors true t store offset len p e l h in
-    let read-named = its-mirrors false t store offset len q answered l at-slot ∙ one-named false (bodyIn (slotAt store (v .grant .slot))) l refl in
-    let efficiency = efficiencyOf (bodyIn (slotAt store (v .grant .slot))) (l .starts) 0 in
+    let read-named = its-mirrors false t store offset len q answered l at-slot ∙ one-named false (bodyIn (slotAt store (v .grant .slot))) l (stripeIn l offset) refl in
+    let efficiency = efficiencyOf (bodyIn (slotAt store (v .grant .slot))) (l .starts) (stripeIn l offset) in
     let n = l .summary .mirrors in
     let some = accepted-limits body l h .mirrors-some in (
       q,
@@ -171,7 +171,9 @@ read-as-written t store offset len p l e h f =
         mirror = (best efficiency (n - 1), read-named, omega (arith, best-is-one efficiency (n - 1), some));
         one = λ k.
             let b : not (oneMirror (l .summary .flags)) ≡ false = ap not k in
-            read-named ∙ (ap (λ (i : ℕ). only (bestMirror (bodyIn (slotAt store i)) (l .starts) n 0)) slot ∙ sym (named ∙ one-named true body l b));
-        all = λ k. let b : not (oneMirror (l .summary .flags)) ≡ true = ap not k in named ∙ all-named true body l b;
+            read-named
+            ∙ (ap (λ (i : ℕ). only (bestMirror (bodyIn (slotAt store i)) (l .starts) n (stripeIn l offset))) slot
+            ∙ sym (named ∙ one-named true body l (stripeIn l offset) b));
+        all = λ k. let b : not (oneMirror (l .summary .flags)) ≡ true = ap not k in named ∙ all-named true body l (stripeIn l offset) b;
       },
     )

@@ -1,5 +1,5 @@
 -- What the claims say of a refusal's number, of an offset in a layout body, of a piece of an I/O in a table, of a
--- byte's right, of the mirror named, and of a grant of a byte.
+-- byte's right, of the mirrors named, and of a grant of a byte.
 use Prim.Native.Nat.{ℕ, _+_, _-_, _^_, _≤_, _<_}
 use mathlib.Core.Path.{_≡_}
 use mathlib.Core.Logic.{_⊎_}
@@ -19,7 +19,8 @@ use Rattle.segments.specs.declared.Table.{Table}
 use Rattle.segments.specs.Segments.{Mode, RW, blank, listIn}
 use Rattle.model.specs.Model.{Action, grants, returns, recalls, revokes, Command, covers}
 use Rattle.model.specs.Model.{ByteRight, none, granted, recalled}
-use Rattle.route.specs.Routes.{FillsUnit, iomodeFor}
+use Rattle.store.specs.Store.{Body, bodyIn, slotAt}
+use Rattle.route.specs.Routes.{FillsUnit, iomodeFor, mirrorsNamed, routed}
 use Rattle.route.specs.declared.piece.Piece.{Piece}
 
 -- whether a number is in a list
@@ -91,6 +92,25 @@ pub record BestOf (efficiency : ℕ → ℕ) (n b : ℕ) : Type 0 where
   pub below : b < n
   pub highest : (m : ℕ) → m < n → efficiency m ≤ efficiency b
   pub lowest : (m : ℕ) → m < b → efficiency m < efficiency b
+
+-- some request is answered with piece p under body b and names one mirror: a read, or a write where l has flag 8
+pub record OneMirrorNamed (b : Body) (l : Layout) (p : Piece) : Type 0 where
+  pub write : Bool
+  pub one : (write && not (bit 8 (l .summary .flags))) ≡ false
+  pub table : Table
+  pub store : List ℕ
+  pub offset : ℕ
+  pub len : ℕ
+  pub answered : routed write table store offset len ≡ accepted p
+  pub under : bodyIn (slotAt store (p .slot .0)) ≡ b
+
+-- byte x is one of the piece's
+abbrev pub InPiece : ℕ → Piece → Type 0
+InPiece x p = (p .offset ≤ x) × (x < p .offset + p .length)
+
+-- the mirrors by the sentence that C-12 replaced: "each mirror is judged by the efficiency of its first data server"
+abbrev pub byFirstServers : Bool → List ℕ → Layout → ℕ
+byFirstServers write body l = mirrorsNamed write body l 0
 
 abbrev pub isGrant : Action → Bool
 isGrant (grants b) = true

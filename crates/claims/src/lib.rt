@@ -21,6 +21,8 @@ ghost use Rattle.base.specs.Answer.{accepted, refused, given};
 ghost use Rattle.base.specs.Bits.{bit};
 ghost use Rattle.base.specs.declared.iomode.Iomode.the-variants.{Read, ReadWrite};
 ghost use Rattle.bytes.specs.Numbers.{AllBytes, beBytes, beValue};
+ghost use Rattle.xdr.specs.Parsed.{ok};
+ghost use Rattle.server.specs.Servers.{serverAt};
 ghost use Rattle.server.specs.declared.item.Server.{Server};
 ghost use Rattle.layout.specs.Layouts.{Layout, flagsAtEnd, layoutBody, startAt, startsOf};
 ghost use Rattle.layout4.specs.Layout4s.{WholeLayout, layout4};
@@ -39,8 +41,8 @@ ghost use Rattle.segments.specs.declared.Right.the-variants.{Granted};
 ghost use Rattle.route.specs.declared.piece.Piece.{Piece};
 ghost use Rattle.route.specs.Mirrors.{efficiencyOf};
 ghost use Rattle.route.specs.Rights.{servedByRights, servedOf};
-ghost use Rattle.route.specs.Routes.{iomodeFor, layoutIn, routed};
-ghost use Rattle.store.specs.Store.{bodyIn, slotAt, zeroStore};
+ghost use Rattle.route.specs.Routes.{iomodeFor, layoutIn, routed, stripeIn};
+ghost use Rattle.store.specs.Store.{Body, bodyIn, slotAt, zeroStore};
 ghost use Rattle.model.specs.Invariants.{leftBy};
 ghost use Rattle.soundness.specs.AnyTable.{EndsBy, OfModel, Typed, modelOf};
 ghost use Rattle.model.specs.Claim.{Calls, Demand3, Fits, acceptedOf, answered, keptLeft, rightGiven, rightIn};
@@ -57,8 +59,8 @@ ghost use Rattle.examples.specs.Examples.{ExampleHolds, examples};
 ghost use Rattle.abi_table.specs.TableRecords.{recordOf, tableIn};
 ghost use Rattle.abi_table.specs.declared.types.TableRecord.{TableRecord};
 ghost use Rattle.basilothyn.specs.Calls.{eventOnRecord, emptyRecord, locateResult, recorded, routedOn, tableOfRecord};
-ghost use Rattle.claims.specs.Statements.{BestOf, PieceLies, ReadAsWritten, ServerAt};
-ghost use Rattle.claims.specs.Statements.{grantsByte, hasRight, isGrantedWithoutFlag4, isOneOf};
+ghost use Rattle.claims.specs.Statements.{BestOf, InPiece, OneMirrorNamed, PieceLies, ReadAsWritten, ServerAt};
+ghost use Rattle.claims.specs.Statements.{byFirstServers, grantsByte, hasRight, isGrantedWithoutFlag4, isOneOf};
 
 // ==== The three demands
 
@@ -363,15 +365,50 @@ pub fn reads_go_where_writes_go()
 {}
 
 // "A read names one mirror: the highest efficiency, lowest number on a tie; each mirror is judged by the efficiency
-// of its first data server .. A write names all mirrors .. or with flag 8 only the mirror that this same rule picks
-// in the write's own body." `efficiencyOf body starts 0 m` is that of mirror m's first server. The mirrors are a set
-// of bits.
+// of the server that holds the stripe of the request's first byte." (C-12) "A write names all mirrors .. or with flag
+// 8 only the mirror that this same rule picks in the write's own body." `stripeIn l offset` is that byte's stripe, and
+// `efficiencyOf body starts k m` is the efficiency of mirror m's server of stripe k
+// (`mirrors_are_judged_by_their_servers`). The mirrors are a set of bits.
 pub fn mirrors_are_named_by_efficiency()
     ensures { λ r. ⌜ ((write : Bool) (t : Table) (store : List ℕ) (offset len : ℕ) (p : Piece) (l : Layout)
         → routed write t store offset len ≡ accepted p → layoutIn store (p .slot .0) ≡ accepted l
         → ((write && not (bit 8 (l .summary .flags))) ≡ true → p .mirrors ≡ 2 ^ l .summary .mirrors - 1)
         × ((write && not (bit 8 (l .summary .flags))) ≡ false → (b : ℕ) × (p .mirrors ≡ 2 ^ b)
-        × BestOf (efficiencyOf (bodyIn (slotAt store (p .slot .0))) (l .starts) 0) (l .summary .mirrors) b)) ⌝ }
+        × BestOf (efficiencyOf (bodyIn (slotAt store (p .slot .0))) (l .starts) (stripeIn l offset))
+        (l .summary .mirrors) b)) ⌝ }
+{}
+
+// The number that mirror m is judged by at stripe k is the efficiency of the data server that is read at its start.
+// At each used start there is one (`starts_are_servers`), mirror m's of stripe k (`starts_are_by_mirror_and_stripe`).
+pub fn mirrors_are_judged_by_their_servers()
+    ensures { λ r. ⌜ ((s starts : List ℕ) (m k next : ℕ) (v : Server) → serverAt s (startAt starts m k) ≡ ok v next
+        → efficiencyOf s starts k m ≡ v .efficiency) ⌝ }
+{}
+
+// Under one layout body a stripe has one mirror, and a byte one stripe: reads, and writes under flag 8, whose pieces
+// have the same stripe name the same mirror, and those whose pieces have a byte in common have the same stripe,
+// whatever the requests, tables and stores are. So a read under the body of a write under flag 8 goes to the data
+// server that has what was written: "A client that has outstanding unstable writes made to single node .. MUST do all
+// reads from that same node" (RFC 8435, 8.2.4).
+pub fn each_stripe_has_its_mirror()
+    ensures { λ r. ⌜ ((b : Body) (l : Layout) → layoutBody b ≡ accepted l → (p q : Piece) → OneMirrorNamed b l p
+        → OneMirrorNamed b l q → (p .stripe .0 ≡ q .stripe .0 → p .mirrors ≡ q .mirrors)
+        × ((x : ℕ) → InPiece x p → InPiece x q → p .stripe .0 ≡ q .stripe .0)) ⌝ }
+{}
+
+// A write without flag 8 names all mirrors, whatever the efficiencies are: C-12 does not move it.
+pub fn writes_without_flag_8_name_all_mirrors()
+    ensures { λ r. ⌜ ((t : Table) (store : List ℕ) (offset len : ℕ) (p : Piece) (l : Layout)
+        → routed true t store offset len ≡ accepted p → layoutIn store (p .slot .0) ≡ accepted l
+        → bit 8 (l .summary .flags) ≡ false → p .mirrors ≡ 2 ^ l .summary .mirrors - 1) ⌝ }
+{}
+
+// With one server a mirror C-12 moves no answer: the mirrors are those by the first servers (`byFirstServers`).
+pub fn with_one_server_the_first_is_judged()
+    ensures { λ r. ⌜ ((write : Bool) (t : Table) (store : List ℕ) (offset len : ℕ) (p : Piece) (l : Layout)
+        → routed write t store offset len ≡ accepted p → layoutIn store (p .slot .0) ≡ accepted l
+        → l .summary .servers ≡ 1
+        → p .mirrors ≡ byFirstServers write (bodyIn (slotAt store (p .slot .0))) l) ⌝ }
 {}
 
 // ---- From demand 3

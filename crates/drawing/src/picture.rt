@@ -8,12 +8,14 @@ use crate::columns::Columns;
 use crate::columns::goes_to;
 use crate::columns::widest;
 use crate::input::ChartInput;
-use crate::input::device_at;
+use crate::input::efficiency_at;
+use crate::input::server_at;
 use base::MirrorNumber;
 use base::StripeNumber;
 use base::larger;
 use layout::Summary;
 use print::print_device_id;
+use print::print_field;
 use print::print_fields;
 use print::print_text;
 use svg::print_box;
@@ -25,8 +27,9 @@ use svg::print_line;
 use svg::print_size;
 use svg::print_style;
 
-// In pixels: where the lanes begin, the size of a column and of a lane, what is left free below a mirror.
-const LEFT: u64 = 320;
+// In pixels: where the lanes begin, the size of a column and of a lane, what is left free below a mirror. Left of the
+// lanes the longest label has 42 characters: its efficiency has ten digits.
+const LEFT: u64 = 368;
 
 const COLUMN: u64 = 72;
 
@@ -128,12 +131,16 @@ fn lower_end(summary: Summary, top: u64) -> u64 {
 }
 
 fn print_name(bytes: &[u8], s: ChartInput, m: MirrorNumber, k: StripeNumber, y: u64) {
-    let values = [add_capped(y, 15), m.0 as u64, k.0 as u64, add_capped(y, 31)];
+    let at = server_at(s, m, k);
+    let efficiency = efficiency_at(bytes, at) as u64;
+    let values = [add_capped(y, 15), m.0 as u64, k.0 as u64, efficiency];
     print_fields(
-        b"<text x=\"28\" y=\"#\">mirror #, stripe #</text>\n<text class=\"mono\" x=\"28\" y=\"#\">device ",
+        b"<text x=\"28\" y=\"#\">mirror #, stripe #, efficiency #</text>\n",
         &values,
     );
-    print_device_id(bytes, device_at(s, m, k));
+    print_field(b"<text class=\"mono\" x=\"28\" y=\"", add_capped(y, 31));
+    print_text(b"\">device ");
+    print_device_id(bytes, at);
     print_text(b"</text>\n");
 }
 
@@ -206,9 +213,9 @@ fn print_columns(columns: Columns, right: u64, top: u64, lower: u64) {
     let to = add_capped(lower, 4);
     print_layer(Layer::Lines(top, to), columns);
     print_line(right, top, to);
-    print_edge(b"offset", top);
+    print_edge(b"offset", LEFT - 12, top);
     print_layer(Layer::Offsets(top), columns);
-    print_edge(b"bytes", add_capped(lower, 20));
+    print_edge(b"bytes", LEFT - 12, add_capped(lower, 20));
     print_layer(Layer::Lengths(add_capped(lower, 20)), columns);
 }
 

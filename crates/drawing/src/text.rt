@@ -8,7 +8,8 @@ use crate::columns::Columns;
 use crate::columns::goes_to;
 use crate::columns::widest;
 use crate::input::ChartInput;
-use crate::input::device_at;
+use crate::input::efficiency_at;
+use crate::input::server_at;
 use base::MirrorNumber;
 use base::StripeNumber;
 use print::print_device_id;
@@ -63,11 +64,13 @@ fn print_cells(row: Row, columns: Columns, width: u64) {
 }
 
 fn print_server(bytes: &[u8], s: ChartInput, m: MirrorNumber, k: StripeNumber, width: u64) {
+    let at = server_at(s, m, k);
     print_right(m.0 as u64, 6);
     print_right(k.0 as u64, 8);
     print_text(b"  ");
-    print_device_id(bytes, device_at(s, m, k));
-    print_text(b"         ");
+    print_device_id(bytes, at);
+    print_right(efficiency_at(bytes, at) as u64, 12);
+    print_text(b"        ");
     let columns = s.columns;
     print_cells(Row::Server(m, k), columns, width);
 }
@@ -107,9 +110,9 @@ pub fn draw_text(bytes: &[u8], s: ChartInput) {
     let columns = s.columns;
     let width = widest(columns);
     print_head(s);
-    print_text(b"mirror  stripe  device id                          offset");
+    print_text(b"mirror  stripe  device id                         efficiency  offset");
     print_cells(Row::Offsets, columns, width);
     print_mirrors(bytes, s, width);
-    print_text(b"                                                    bytes");
+    print_text(b"                                                               bytes");
     print_cells(Row::Lengths, columns, width);
 }

@@ -12,41 +12,41 @@ use Rattle.layout.specs.Layouts.{Layout}
 use Rattle.route.specs.Mirrors.{allOf, bestMirror, efficiencyOf, only}
 use Rattle.route.specs.Routes.{mirrorsNamed, oneMirror}
 
-pub all-named : (write : Bool) (body : List ℕ) (l : Layout) → (write && not (oneMirror (l .summary .flags))) ≡ true
-    → mirrorsNamed write body l ≡ allOf (l .summary .mirrors)
+pub all-named : (write : Bool) (body : List ℕ) (l : Layout) (stripe : ℕ) → (write && not (oneMirror (l .summary .flags))) ≡ true
+    → mirrorsNamed write body l stripe ≡ allOf (l .summary .mirrors)
 unfolding mirrorsNamed pick
-all-named true body l h = rw (one (oneMirror (l .summary .flags)) h)
+all-named true body l stripe h = rw (one (oneMirror (l .summary .flags)) h)
   where
     one : (b : Bool) → not b ≡ true → b ≡ false
     one true e = sym e
     one false e = refl
-all-named false body l h = let z : _≡_ {A = ℕ} 0 1 = cc in absurd (omega arith)
+all-named false body l stripe h = let z : _≡_ {A = ℕ} 0 1 = cc in absurd (omega arith)
 
-pub one-named : (write : Bool) (body : List ℕ) (l : Layout) → (write && not (oneMirror (l .summary .flags))) ≡ false
-    → mirrorsNamed write body l ≡ only (bestMirror body (l .starts) (l .summary .mirrors) 0)
+pub one-named : (write : Bool) (body : List ℕ) (l : Layout) (stripe : ℕ) → (write && not (oneMirror (l .summary .flags))) ≡ false
+    → mirrorsNamed write body l stripe ≡ only (bestMirror body (l .starts) (l .summary .mirrors) stripe)
 unfolding mirrorsNamed pick
-one-named true body l h = rw (one (oneMirror (l .summary .flags)) h)
+one-named true body l stripe h = rw (one (oneMirror (l .summary .flags)) h)
   where
     one : (b : Bool) → not b ≡ false → b ≡ true
     one true e = refl
     one false e = sym e
-one-named false body l h = refl
+one-named false body l stripe h = refl
 
 -- what is named is some of the layout's mirrors
-pub some-named : (write : Bool) (body : List ℕ) (l : Layout) → 1 ≤ l .summary .mirrors
-    → (1 ≤ mirrorsNamed write body l) × (mirrorsNamed write body l < 2 ^ l .summary .mirrors)
+pub some-named : (write : Bool) (body : List ℕ) (l : Layout) (stripe : ℕ) → 1 ≤ l .summary .mirrors
+    → (1 ≤ mirrorsNamed write body l stripe) × (mirrorsNamed write body l stripe < 2 ^ l .summary .mirrors)
 unfolding mirrorsNamed bestMirror pick
-some-named write body l h = go write (oneMirror (l .summary .flags))
+some-named write body l stripe h = go write (oneMirror (l .summary .flags))
   where
     m : ℕ
     m = l .summary .mirrors
 
     picked : ℕ
-    picked = best (efficiencyOf body (l .starts) 0) (m - 1)
+    picked = best (efficiencyOf body (l .starts) stripe) (m - 1)
 
     one : (1 ≤ 2 ^ picked) × (2 ^ picked < 2 ^ m)
     one =
-        let b : picked ≤ m - 1 = best-is-one (efficiencyOf body (l .starts) 0) (m - 1) in
+        let b : picked ≤ m - 1 = best-is-one (efficiencyOf body (l .starts) stripe) (m - 1) in
         let k : picked < m = omega arith in
         (pow-pos picked, pow-lt k)
 

@@ -19,8 +19,8 @@ use Rattle.segments.specs.declared.Table.{Table}
 use Rattle.segments.specs.Segments.{Mode, RW, blank, listIn, rightAt}
 use Rattle.store.specs.Store.{bodyIn, slotAt}
 use Rattle.soundness.specs.Sound.{sound}
-use Rattle.route.specs.Routes.{FillsUnit, Serving, iomodeFor, layoutIn, mirrorsNamed, pieceAt, routed, served}
-use Rattle.route.specs.Stripes.{pieceLength, stripeOf, unitRest}
+use Rattle.route.specs.Routes.{FillsUnit, Serving, iomodeFor, layoutIn, mirrorsNamed, pieceAt, routed, served, stripeIn}
+use Rattle.route.specs.Stripes.{pieceLength, unitRest}
 use Rattle.route.specs.declared.piece.Piece.{Piece}
 use Rattle.route.proofs.MirrorLaws.{some-named}
 use Rattle.route.proofs.ServedLaws.{grant-found, request-refused, served-limits, served-refused, what-serves}
@@ -160,11 +160,9 @@ module _ (write : Bool) (t : Table) (store : List ℕ) (offset len : ℕ) where
       pub piece-in-unit : 1 < l .summary .servers → offset / l .summary .unit ≡ (offset + p .length - 1) / l .summary .unit
       piece-in-unit k = let a = piece-in-request in sym (bytes-in-unit k (offset + p .length - 1) (omega arith) (omega arith))
 
-      its-stripe : p .stripe .0 ≡ stripeOf (l .summary .unit) (l .summary .servers) offset
+      pub its-stripe : p .stripe .0 ≡ stripeIn l offset
       unfolding pieceAt
-      its-stripe =
-          ap (λ (q : Piece). q .stripe .0) (sym (by-parts .piece))
-          ∙ ap (λ (y : Layout). stripeOf (y .summary .unit) (y .summary .servers) offset) its-layout
+      its-stripe = ap (λ (q : Piece). q .stripe .0) (sym (by-parts .piece)) ∙ ap (λ (y : Layout). stripeIn y offset) its-layout
 
       -- "Stripe number = (offset div unit) mod servers; with one server it is 0."
       pub stripe-of-one : l .summary .servers ≡ 1 → p .stripe .0 ≡ 0
@@ -173,6 +171,21 @@ module _ (write : Bool) (t : Table) (store : List ℕ) (offset len : ℕ) where
       pub stripe-of-each : 1 < l .summary .servers → (x : ℕ) → offset ≤ x → x < offset + p .length → p .stripe .0 ≡ x / l .summary .unit % l .summary .servers
       stripe-of-each k x lo hi =
           its-stripe ∙ sym (stripe-by-unit (l .summary .unit) (l .summary .servers) offset (x / l .summary .unit) k (bytes-in-unit k x lo hi))
+
+      -- either way it is the stripe of each of the piece's bytes
+      pub stripe-of-byte : (x : ℕ) → offset ≤ x → x < offset + p .length → p .stripe .0 ≡ stripeIn l x
+      unfolding layoutIn
+      stripe-of-byte x lo hi = go (decLt 1 (l .summary .servers))
+        where
+          some : 1 ≤ l .summary .servers
+          some = accepted-limits (bodyIn (slotAt store (p .slot .0))) l h .servers-some
+
+          go : Dec (1 < l .summary .servers) → p .stripe .0 ≡ stripeIn l x
+          go (yes k) =
+              stripe-of-each k x lo hi ∙ stripe-by-unit (l .summary .unit) (l .summary .servers) x (x / l .summary .unit) k refl
+          go (no k) =
+              let s = some in
+              stripe-of-one (omega arith) ∙ one-stripe (l .summary .unit) (l .summary .servers) x (omega arith)
 
       -- the stripe and the mirrors are the layout's
       pub stripe-below : p .stripe .0 < l .summary .servers
@@ -188,20 +201,20 @@ module _ (write : Bool) (t : Table) (store : List ℕ) (offset len : ℕ) where
               rw e (mod-lt (offset / l .summary .unit) (omega arith))
           go (no k) = let s = some in let e = stripe-of-one (omega arith) in omega arith
 
-      pub its-mirrors : p .mirrors ≡ mirrorsNamed write (bodyIn (slotAt store (p .slot .0))) l
+      pub its-mirrors : p .mirrors ≡ mirrorsNamed write (bodyIn (slotAt store (p .slot .0))) l (stripeIn l offset)
       unfolding pieceAt
       its-mirrors =
           let v = by-parts .serving in
           let i : v .grant .slot ≡ p .slot .0 = ap (λ (q : Piece). q .slot .0) (by-parts .piece) in
           ap (λ (q : Piece). q .mirrors) (sym (by-parts .piece))
-          ∙ (ap (λ (j : ℕ). mirrorsNamed write (bodyIn (slotAt store j)) (v .layout)) i
-          ∙ ap (λ (y : Layout). mirrorsNamed write (bodyIn (slotAt store (p .slot .0))) y) its-layout)
+          ∙ (ap (λ (j : ℕ). mirrorsNamed write (bodyIn (slotAt store j)) (v .layout) (stripeIn (v .layout) offset)) i
+          ∙ ap (λ (y : Layout). mirrorsNamed write (bodyIn (slotAt store (p .slot .0))) y (stripeIn y offset)) its-layout)
 
       pub mirrors-below : (1 ≤ p .mirrors) × (p .mirrors < 2 ^ l .summary .mirrors)
       unfolding layoutIn
       mirrors-below =
           let body = bodyIn (slotAt store (p .slot .0)) in
-          rw its-mirrors (some-named write body l (accepted-limits body l h .mirrors-some))
+          rw its-mirrors (some-named write body l (stripeIn l offset) (accepted-limits body l h .mirrors-some))
 
   -- "Order: 20, 5, 17."
   pub refusals-are-listed : (n : ℕ) → routed write t store offset len ≡ refused n → (n ≡ 20) ⊎ (n ≡ 5) ⊎ (n ≡ 17)

@@ -17,9 +17,9 @@ use Rattle.segments.specs.Segments.{listOf, within}
 use Rattle.lookup.proofs.LookupLaws.{next-segment}
 use Rattle.store.specs.Store.{bodyIn, slotAt}
 use Rattle.soundness.specs.Sound.{sound}
-use Rattle.route.specs.Routes.{Grant, Serving, grantIn, grantOf, mirrorsNamed, noReads, pieceAt, routed, served}
+use Rattle.route.specs.Routes.{Grant, Serving, grantIn, grantOf, mirrorsNamed, noReads, pieceAt, routed, served, stripeIn}
 use Rattle.route.specs.Answers.{grantForReads}
-use Rattle.route.specs.Stripes.{pieceLength, stripeOf}
+use Rattle.route.specs.Stripes.{pieceLength}
 use Rattle.route.specs.declared.piece.Piece.{Piece}
 
 -- ---- the segments looked through from the front
@@ -56,16 +56,18 @@ module _ (store : List ℕ) (a : Answer Grant) where
 -- ---- the answer
 
 pub piece-is : (write : Bool) (store : List ℕ) (offset len : ℕ) (v : Serving) (stripe : StripeNumber) (piece mirrors : ℕ) (slot body : List ℕ)
-    → stripe ≡ record { 0 = stripeOf (v .layout .summary .unit) (v .layout .summary .servers) offset }
+    → stripe ≡ record { 0 = stripeIn (v .layout) offset }
     → piece ≡ pieceLength (v .layout .summary .unit) (v .layout .summary .servers) (v .grant .last) offset len
-    → slot ≡ slotAt store (v .grant .slot) → body ≡ bodyIn slot → mirrors ≡ mirrorsNamed write body (v .layout)
+    → slot ≡ slotAt store (v .grant .slot) → body ≡ bodyIn slot → mirrors ≡ mirrorsNamed write body (v .layout) (stripe .0)
     → _≡_ {A = Piece}
     (record { iomode = v .grant .iomode; slot = record { 0 = v .grant .slot }; stripe = stripe; offset = offset; length = piece; mirrors = mirrors })
     (pieceAt write store offset len v)
 unfolding pieceAt
 piece-is write store offset len v stripe piece mirrors slot body s p b c m =
-    let n : mirrors ≡ mirrorsNamed write (bodyIn (slotAt store (v .grant .slot))) (v .layout) =
-    m ∙ ap (λ (x : List ℕ). mirrorsNamed write x (v .layout)) (c ∙ ap bodyIn b) in
+    let n : mirrors ≡ mirrorsNamed write (bodyIn (slotAt store (v .grant .slot))) (v .layout) (stripeIn (v .layout) offset) =
+    m
+    ∙ (ap (λ (x : List ℕ). mirrorsNamed write x (v .layout) (stripe .0)) (c ∙ ap bodyIn b)
+    ∙ ap (λ (x : StripeNumber). mirrorsNamed write (bodyIn (slotAt store (v .grant .slot))) (v .layout) (x .0)) s) in
     λ i. record { iomode = v .grant .iomode; slot = record { 0 = v .grant .slot }; stripe = s i; offset = offset; length = p i; mirrors = n i }
 
 -- ---- the request

@@ -86,15 +86,19 @@ served false t store x = orElse (readThroughRw t store x) (grantWithLayout t REA
 
 -- ---- the answer
 
+-- the stripe of a byte, by the layout's unit and its servers in each mirror
+abbrev pub stripeIn : Layout → ℕ → ℕ
+stripeIn l x = stripeOf (l .summary .unit) (l .summary .servers) x
+
 -- "A read names one mirror: the highest efficiency, lowest number on a tie; each mirror is judged by the efficiency
--- of its first data server (ours). A write names all mirrors, as a set of bits, or with flag 8 only the mirror that
--- this same rule picks in the write's own body."
-unfoldable pub mirrorsNamed : Bool → List ℕ → Layout → ℕ
-mirrorsNamed write body l =
+-- of the server that holds the stripe of the request's first byte." (C-12) "A write names all mirrors, as a set of
+-- bits, or with flag 8 only the mirror that this same rule picks in the write's own body."
+unfoldable pub mirrorsNamed : Bool → List ℕ → Layout → ℕ → ℕ
+mirrorsNamed write body l stripe =
     pick write
-    (pick (oneMirror (l .summary .flags)) (only (bestMirror body (l .starts) (l .summary .mirrors) 0))
+    (pick (oneMirror (l .summary .flags)) (only (bestMirror body (l .starts) (l .summary .mirrors) stripe))
     (allOf (l .summary .mirrors)))
-    (only (bestMirror body (l .starts) (l .summary .mirrors) 0))
+    (only (bestMirror body (l .starts) (l .summary .mirrors) stripe))
 
 -- "The answer gives iomode, slot number, stripe number, offset, piece length and mirrors." "The offset on the server
 -- is the file offset."
@@ -102,10 +106,10 @@ unfoldable pub pieceAt : Bool → List ℕ → ℕ → ℕ → Serving → Piece
 pieceAt write store offset len v = record {
   iomode = v .grant .iomode;
   slot = record { 0 = v .grant .slot };
-  stripe = record { 0 = stripeOf (v .layout .summary .unit) (v .layout .summary .servers) offset };
+  stripe = record { 0 = stripeIn (v .layout) offset };
   offset = offset;
   length = pieceLength (v .layout .summary .unit) (v .layout .summary .servers) (v .grant .last) offset len;
-  mirrors = mirrorsNamed write (bodyIn (slotAt store (v .grant .slot))) (v .layout);
+  mirrors = mirrorsNamed write (bodyIn (slotAt store (v .grant .slot))) (v .layout) (stripeIn (v .layout) offset);
 }
 
 -- "Order: 20, 5, 17."

@@ -71,13 +71,15 @@ pub(crate) fn mirrors_named(
     body: &[u8],
     summary: Summary,
     starts: [u16; MOST_STARTS],
+    stripe: StripeNumber,
 ) -> u32
     requires { ⌜ (1 ≤ summary .mirrors) × (summary .mirrors ≤ mostMirrors) ⌝ }
-    ensures { λ r. ⌜ r ≡ mirrorsNamed write (now (body .entry)) (record { summary = summary; starts = starts }) ⌝ }
+    ensures { λ r. ⌜ r ≡ mirrorsNamed write (now (body .entry)) (record { summary = summary; starts = starts })
+        (stripe .0) ⌝ }
 {
     if names_all(write, summary.flags) {
         return power(summary.mirrors) - 1;
     }
-    let m = best_mirror(body, starts, summary.mirrors, StripeNumber(0));
+    let m = best_mirror(body, starts, summary.mirrors, stripe);
     power(m.0)
 }

@@ -46,6 +46,7 @@ fn piece_at(write: bool, store: &[u8], offset: u64, len: u64, v: Serving) -> Pie
         store::slot_body(store::slot_bytes(store, slot)),
         summary,
         starts,
+        stripe,
     );
     Piece {
         iomode,

@@ -73,13 +73,13 @@ pub fn print_entry(k: u64, x: u64, y: u64, words_x: u64, words_y: u64) {
     );
 }
 
-// The name of what is along an edge.
-pub fn print_edge(name: &[u8], y: u64) {
-    print_field(
-        b"<text class=\"mono\" text-anchor=\"end\" x=\"308\" y=\"",
-        y,
+// The name of what is along an edge, up to a point.
+pub fn print_edge(name: &[u8], x: u64, y: u64) {
+    let values = [x, y];
+    print_fields(
+        b"<text class=\"mono\" text-anchor=\"end\" x=\"#\" y=\"#\">",
+        &values,
     );
-    print_text(b"\">");
     print_text(name);
     print_text(b"</text>\n");
 }

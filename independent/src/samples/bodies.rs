@@ -78,6 +78,19 @@ impl LayoutPlan {
         LayoutPlan { unit: 0, mirrors: vec![vec![server]], flags: 0, hint: 0 }
     }
 
+    /// Smallest servers of these efficiencies: a row for each mirror, and in it
+    /// a number for each stripe.
+    pub fn of_efficiencies(rows: &[impl AsRef<[u32]>]) -> Self {
+        let servers = rows.first().map_or(0, |row| row.as_ref().len());
+        let mut plan = LayoutPlan::plain(rows.len(), servers);
+        for (mirror, row) in plan.mirrors.iter_mut().zip(rows) {
+            for (server, &efficiency) in mirror.iter_mut().zip(row.as_ref()) {
+                server.efficiency = efficiency;
+            }
+        }
+        plan
+    }
+
     /// Two mirrors of two servers with every padding from 0 to 3.
     pub fn two_by_two() -> Self {
         let mirror =
@@ -99,8 +112,9 @@ impl LayoutPlan {
     }
 }
 
-/// Gives each mirror's first server its efficiency. The others get numbers that
-/// would turn the choice around.
+/// Gives each mirror's first server its efficiency, and the others what is left
+/// of 2^32 - 1: the highest at stripe 0 is the lowest at every other stripe, so
+/// that the best mirror changes with the stripe, unless all are alike.
 pub fn with_efficiencies(mut plan: LayoutPlan, efficiencies: &[u32]) -> LayoutPlan {
     for (mirror, &efficiency) in plan.mirrors.iter_mut().zip(efficiencies) {
         for (stripe, server) in mirror.iter_mut().enumerate() {

@@ -1,5 +1,6 @@
 //! Random damage to a table or store, the calls that meet it, and its repair.
 
+use independent::event::Event;
 use independent::iomode::Iomode;
 use independent::samples::random::Random;
 use independent::segments::{Right, Segment};
@@ -20,6 +21,15 @@ pub fn corruption_and_repair(random: &mut Random, state: &State, calls: Vec<Tabl
     cases.extend(calls);
     cases.extend([TableCase::ShowTable, TableCase::ShowStore, repair]);
     cases
+}
+
+/// The cases of a [`refused_revoke`].
+pub const REVOKE_CASES: usize = 3;
+
+/// A revoke that is refused, by a store that is too short, and its repair.
+pub fn refused_revoke(random: &mut Random) -> Vec<TableCase> {
+    let short = TableCase::SetBorrowed(random.below(STORE_LENGTH));
+    vec![short, TableCase::Event(Event::Revoke), TableCase::SetBorrowed(STORE_LENGTH)]
 }
 
 fn borrowed_length(random: &mut Random) -> usize {

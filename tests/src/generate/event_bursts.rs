@@ -86,6 +86,13 @@ impl EventSource {
         EventSource { state: State::default(), manner: Manner::any(random) }
     }
 
+    /// Puts cases that were made elsewhere to this source's state.
+    pub fn follow(&mut self, cases: &[TableCase]) {
+        for case in cases {
+            table_case_line(&mut self.state, case);
+        }
+    }
+
     /// Exactly `count` cases that follow each other; a burst starts in what the
     /// last one left.
     pub fn burst(&mut self, random: &mut Random, count: usize) -> Vec<TableCase> {

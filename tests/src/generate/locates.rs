@@ -1,6 +1,7 @@
 //! Where reads and writes go: rights, stripes, pieces and mirrors.
 
 use super::aimed_requests::aimed_request;
+use super::judged_mirrors;
 use super::layout4s::EDGES;
 use super::striped_bodies::striped_body;
 use independent::cases::CaseFileWriter;
@@ -15,7 +16,7 @@ use independent::state::State;
 use independent::table_cases::TableCase;
 
 /// 2^44, where a unit number no longer fits 32 bits.
-const FAR: u64 = 1 << 44;
+pub const FAR: u64 = 1 << 44;
 
 /// From here on READ is granted too, where RW has an odd number of servers.
 const READ_STRIPES: u64 = 1 << 40;
@@ -42,7 +43,8 @@ const STRIPINGS: [(u64, usize); 18] = [
     (u64::MAX, 2),
 ];
 
-/// Efficiencies of the mirrors' first servers.
+/// Efficiencies of the mirrors at stripe 0; at the other one the lowest is the
+/// highest.
 const EFFICIENCIES: [&[u32]; 13] = [
     &[5],
     &[1, 1],
@@ -71,6 +73,7 @@ pub fn add(cases: &mut CaseFileWriter) {
     add_both_iomodes(cases);
     add_small_file(cases);
     add_mirrors(cases);
+    judged_mirrors::add(cases);
     add_random_tables(cases);
     add_request_numbers(cases);
     add_last_bytes(cases);
@@ -78,12 +81,13 @@ pub fn add(cases: &mut CaseFileWriter) {
 }
 
 /// The same bytes read and written.
-fn ask(cases: &mut CaseFileWriter, offset: u64, length: u64) {
+pub fn ask(cases: &mut CaseFileWriter, offset: u64, length: u64) {
     cases.locate(IoRequest::read(offset, length));
     cases.locate(IoRequest::write(offset, length));
 }
 
-fn start_with(cases: &mut CaseFileWriter, events: &[Event]) {
+/// These events on an empty table.
+pub fn start_with(cases: &mut CaseFileWriter, events: &[Event]) {
     cases.table(&TableCase::Reset);
     events.iter().for_each(|event| cases.event(event.clone()));
 }

@@ -1,10 +1,13 @@
 //! Random cases of all kinds, sound and damaged.
 
 use super::bad_records::{add_cut_record, add_record_without_form, add_unknown_kind};
+use super::corruptions::{refused_revoke, REVOKE_CASES};
 use super::event_bursts::{EventSource, MOST_IN_BOTH};
+use super::judged_mirrors::{random_judged, MOST_IN_JUDGED};
 use super::layout4s::EDGES;
 use super::layouts::MOST_SERVERS;
 use super::reports_written::case_of;
+use super::segment_limits::{random_full_list, MOST_IN_FULL_LIST};
 use independent::binding::BindRequest;
 use independent::cases::{kind, CaseFileWriter};
 use independent::report::DeviceError;
@@ -14,6 +17,7 @@ use independent::samples::bodies::{
 };
 use independent::samples::random::Random;
 use independent::samples::wire::Wire;
+use independent::table_cases::TableCase;
 
 /// The longest burst of cases that concern the table.
 const LONGEST_BURST: usize = 80;
@@ -27,16 +31,11 @@ pub fn random_file(seed: u64, count: usize) -> Vec<u8> {
     let mut source = EventSource::new(&mut random);
     let mut left = count;
     while left > 0 {
-        let burst = if random.once_in(30) {
-            let length = random.between(1, LONGEST_BURST).min(left);
-            source.burst(&mut random, length)
-        } else if left >= MOST_IN_BOTH && random.once_in(20) {
-            source.both_iomodes(&mut random)
-        } else {
+        let burst = table_cases(&mut source, &mut random, left);
+        if burst.is_empty() {
             add_case(&mut cases, &mut random);
             left -= 1;
-            continue;
-        };
+        }
         burst.iter().for_each(|case| cases.table(case));
         left -= burst.len();
     }
@@ -47,6 +46,28 @@ pub fn random_file(seed: u64, count: usize) -> Vec<u8> {
         _ => {}
     }
     cases.into_bytes()
+}
+
+/// At most `left` cases of the table; none where it is the turn of the wire.
+fn table_cases(source: &mut EventSource, random: &mut Random, left: usize) -> Vec<TableCase> {
+    if random.once_in(30) {
+        let length = random.between(1, LONGEST_BURST).min(left);
+        return source.burst(random, length);
+    }
+    if left >= MOST_IN_BOTH && random.once_in(14) {
+        return source.both_iomodes(random);
+    }
+    let cases = if left >= MOST_IN_JUDGED && random.once_in(50) {
+        random_judged(random)
+    } else if left >= MOST_IN_FULL_LIST && random.once_in(200) {
+        random_full_list(random)
+    } else if left >= REVOKE_CASES && random.once_in(200) {
+        refused_revoke(random)
+    } else {
+        Vec::new()
+    };
+    source.follow(&cases);
+    cases
 }
 
 /// One case of the wire part.
@@ -120,9 +141,14 @@ fn layout_plan(random: &mut Random) -> LayoutPlan {
             *server = server_plan(random);
         }
     }
-    if random.once_in(60) {
-        // One server more in the last mirror: with more than one mirror that is 9.
-        plan.mirrors[mirrors - 1].push(server_plan(random));
+    if random.once_in(20) {
+        match random.below(3) {
+            // One server more in the last mirror: with more than one mirror that is 9.
+            0 => plan.mirrors[mirrors - 1].push(server_plan(random)),
+            // 10, and 11.
+            1 => plan.unit = u64::from(servers == 1),
+            _ => plan.flags |= 16 << random.below(28),
+        }
     }
     plan
 }

@@ -9,6 +9,7 @@ pub mod devices;
 pub mod event_bursts;
 pub mod file_ends;
 pub mod granted_bytes;
+pub mod judged_mirrors;
 pub mod layout4s;
 pub mod layouts;
 pub mod locates;

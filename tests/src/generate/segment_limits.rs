@@ -6,10 +6,17 @@ use independent::event::Event;
 use independent::iomode::IOMODE_ANY;
 use independent::range::LAST_BYTE;
 use independent::samples::events::{grant, layout_return, recall, small_body};
+use independent::samples::random::Random;
 use independent::table_cases::TableCase;
 
 /// The segments are 0..9, 20..29, 40..49 and so on.
 const STEP: u64 = 20;
+/// A recall inside a segment makes three of it: so many make 31 of one.
+const RECALLS: u64 = 15;
+/// The most events that are put to a full list.
+const MOST_REFUSED: usize = 8;
+/// A reset, a grant, the recalls and one more, and the events that are refused.
+pub const MOST_IN_FULL_LIST: usize = 3 + RECALLS as usize + MOST_REFUSED;
 
 pub fn add(cases: &mut CaseFileWriter) {
     for iomode in GRANT_IOMODES {
@@ -19,6 +26,33 @@ pub fn add(cases: &mut CaseFileWriter) {
     }
     add_merges_in_a_full_list(cases);
     add_recalled_neighbours(cases);
+}
+
+/// A list of 32 segments somewhere in the file, and events that would need
+/// more, or are grants of recalled bytes; at most [`MOST_IN_FULL_LIST`] cases.
+pub fn random_full_list(random: &mut Random) -> Vec<TableCase> {
+    let iomode = random.pick(&GRANT_IOMODES);
+    let origin = random.pick(&[0, 1_000, 1 << 32, LAST_BYTE - 1_000]);
+    let body = small_body(random.below(40) as u32);
+    let first_of = |place: u64| origin + place * STEP;
+    let mut events = vec![grant(iomode, origin, first_of(RECALLS + 1) - 1, &body)];
+    events.extend((1..=RECALLS).map(|place| recall(iomode, first_of(place), first_of(place) + 9)));
+    events.push(recall(iomode, origin, origin));
+    for _ in 0..random.between(1, MOST_REFUSED) {
+        let first = first_of(random.between(1, RECALLS as usize) as u64);
+        let acting = random.pick(&[iomode, IOMODE_ANY]);
+        events.push(match random.below(5) {
+            // Inside a recalled segment.
+            0 => grant(iomode, first + 2, first + 7, &body),
+            1 => layout_return(acting, first + 2, first + 7),
+            // Inside a granted one.
+            2 => layout_return(acting, first + 12, first + 17),
+            3 => recall(acting, first + 12, first + 17),
+            // After all of them.
+            _ => grant(iomode, first_of(RECALLS + 2), first_of(RECALLS + 3), &body),
+        });
+    }
+    [TableCase::Reset].into_iter().chain(events.into_iter().map(TableCase::Event)).collect()
 }
 
 fn fill(cases: &mut CaseFileWriter, iomode: u32, count: u64) {
@@ -117,4 +151,33 @@ fn add_recalled_neighbours(cases: &mut CaseFileWriter) {
     cases.event(layout_return(1, 2, 7));
     cases.event(recall(1, 0, LAST_BYTE));
     show(cases);
+}
+
+#[cfg(test)]
+mod tests {
+    use super::*;
+    use independent::refusal::Refusal;
+    use independent::state::State;
+
+    /// The list is filled without a refusal, and all that follows is refused
+    /// with 22 or 23.
+    #[test]
+    fn random_full_lists_are_full() {
+        let mut random = Random::new(73);
+        for _ in 0..100 {
+            let cases = random_full_list(&mut random);
+            assert!(cases.len() <= MOST_IN_FULL_LIST);
+            let (start, refused) = cases.split_at(MOST_IN_FULL_LIST - MOST_REFUSED);
+            let mut state = State::default();
+            let mut apply = |case: &TableCase| match case {
+                TableCase::Event(event) => state.apply(event),
+                _ => Ok(()),
+            };
+            assert!(start.iter().all(|case| apply(case) == Ok(())));
+            assert!(!refused.is_empty());
+            for answer in refused.iter().map(apply) {
+                assert!([Err(Refusal::Recalled), Err(Refusal::TooManySegments)].contains(&answer), "{answer:?}");
+            }
+        }
+    }
 }

@@ -1,17 +1,13 @@
 //! What serves the first byte of a read, by table and store alone, and how
 //! often each situation comes in a case file.
 
-use independent::cases::{Case, CaseFile};
+use crate::requests::{body_of, for_each_request};
 use independent::io_request::{Direction, IoRequest};
 use independent::iomode::Iomode;
 use independent::layout::read_layout_body;
 use independent::locate::Location;
-use independent::range::check_io_range;
 use independent::segments::{Right, Segment};
 use independent::state::State;
-use independent::store::{body_in, slots};
-use independent::table_cases::TableCase;
-use independent::table_lines::table_case_line;
 use std::collections::BTreeMap;
 
 /// Where both iomodes serve: which segment's end is seen in the piece.
@@ -67,23 +63,13 @@ impl Rights {
 /// How often each situation comes in the reads of a case file that are judged
 /// by rights. Each of them is answered from the segment that is to be used.
 pub fn rights_of_reads(file: &[u8]) -> BTreeMap<Rights, usize> {
-    let mut state = State::default();
     let mut counts = BTreeMap::new();
-    for case in CaseFile::new(file) {
-        let Case::Table(case) = case else { continue };
-        if let TableCase::Locate(request) = &case {
-            if request.direction == Direction::Read && is_judged_by_rights(&state, request) {
-                *counts.entry(rights_of(&state, request)).or_default() += 1;
-            }
+    for_each_request(file, |state, request| {
+        if request.direction == Direction::Read {
+            *counts.entry(rights_of(state, request)).or_default() += 1;
         }
-        table_case_line(&mut state, &case);
-    }
+    });
     counts
-}
-
-/// 20 and 5 come before.
-fn is_judged_by_rights(state: &State, request: &IoRequest) -> bool {
-    state.is_sound() && check_io_range(request.offset, request.length).is_ok()
 }
 
 fn rights_of(state: &State, request: &IoRequest) -> Rights {
@@ -120,8 +106,7 @@ fn segment_at(state: &State, iomode: Iomode, byte: u64) -> Segment {
 }
 
 fn has_flag_4(state: &State, slot: u32) -> bool {
-    let body = slots(&state.store).nth(slot as usize).and_then(body_in).expect("a body");
-    read_layout_body(body).expect("an accepted body").flags & 4 != 0
+    read_layout_body(body_of(state, slot)).expect("an accepted body").flags & 4 != 0
 }
 
 fn end_seen(request: &IoRequest, answer: Option<Location>, read: &Segment, rw: &Segment) -> End {

@@ -18,7 +18,10 @@ sub-result : tie.Need-sub-result
 sub-result c = c .power .ensures .1
 
 returns : tie.Need-returns
-returns c = ap (λ (k : ℕ). k - 1) (c .power .ensures .0) ∙ sym (all-named (c .before .before .before .before .args .write) (now (c .before .before .before .before .args .body)) _ (sym (c .before .before .names-all .ensures) ∙ c .before .if1 .taken))
+returns c =
+    let a = c .before .before .before .before .args in
+    ap (λ (k : ℕ). k - 1) (c .power .ensures .0)
+    ∙ sym (all-named (a .write) (now (a .body)) _ (a .stripe .0) (sym (c .before .before .names-all .ensures) ∙ c .before .if1 .taken))
 
 best-mirror-requires : tie.Need-best-mirror-requires
 best-mirror-requires c κs = search needs
@@ -27,7 +30,11 @@ power-requires-2 : tie.Need-power-requires-2
 power-requires-2 c κs = omega (arith, c .best-mirror .ensures .1)
 
 returns-2 : tie.Need-returns-2
-returns-2 c = c .power2 .ensures .0 ∙ (ap (λ (k : ℕ). 2 ^ k) (c .before .best-mirror .ensures .0) ∙ sym (one-named (c .before .before .before .before .before .args .write) (now (c .before .before .before .before .before .args .body)) _ (sym (c .before .before .before .names-all .ensures) ∙ c .before .before .if1 .left)))
+returns-2 c =
+    let a = c .before .before .before .before .before .args in
+    c .power2 .ensures .0
+    ∙ (ap (λ (k : ℕ). 2 ^ k) (c .before .best-mirror .ensures .0)
+    ∙ sym (one-named (a .write) (now (a .body)) _ (a .stripe .0) (sym (c .before .before .before .names-all .ensures) ∙ c .before .before .if1 .left)))
 
 pub mirrors-named-spec : {M : Type 1} → statement M
 mirrors-named-spec =
