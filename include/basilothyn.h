@@ -234,13 +234,14 @@ struct basilothyn_locate_result {
 /* Where a read goes: to one mirror, the one whose data server of the piece's stripe has the highest efficiency, the
  * lowest number on a tie; so the next piece may go to another mirror. It is served by RW under a body without flag 4,
  * else by READ. Where that data server is down, the one with the same stripe number in any other mirror of the body
- * may serve, but for bytes that were written under flag 8 and are not yet committed. Refusals in order: 20, 5, 17. Ask
- * again after the piece for the rest. */
+ * may serve, but for bytes that were written under flag 8 and are not yet committed (see the write). Refusals in
+ * order: 20, 5, 17. Ask again after the piece for the rest. */
 struct basilothyn_locate_result basilothyn_locate_read(struct basilothyn_table table, const uint8_t *store,
                                                        size_t store_length, uint64_t offset, uint64_t length);
 
-/* Where a write goes: to every mirror, or with flag 8 to one, picked as for a read, piece by piece. It is served by
- * RW. Refusals in order: 20, 5, 17. Ask again likewise. */
+/* Where a write goes: to every mirror, or with flag 8 to one, picked as for a read, piece by piece. Bytes that were
+ * written unstably to one mirror are read from it until COMMIT is answered; a lookup for a read that READ serves, or
+ * RW under another body, may name another. It is served by RW. Refusals in order: 20, 5, 17. Ask again likewise. */
 struct basilothyn_locate_result basilothyn_locate_write(struct basilothyn_table table, const uint8_t *store,
                                                         size_t store_length, uint64_t offset, uint64_t length);
 

@@ -140,8 +140,8 @@ fn the_stored_file_reaches_every_refusal_often() {
     assert_requests_vary(&answers);
 }
 
-/// Both files are in the repository and are read whole, so cases are added for
-/// what no other one asks, and a bound is raised only for such.
+/// Both files are in the repository: a case is added only for what no other
+/// asks, and a bound is raised only for such.
 #[test]
 fn the_stored_file_is_small_and_ends_properly() {
     let file = stored_file().expect("the captures");
@@ -151,10 +151,10 @@ fn the_stored_file_is_small_and_ends_properly() {
     assert!(answers.ends_with(&format!("\nend {}\n", file.len())));
 }
 
-/// Measured over such files of seeds 1 to 40: a number of the wire comes at
-/// least 25 times (7), one of the table at least 117 times (22), 23 comes 351 to
-/// 756 times, and a revoke is refused at least 43 times. So the bounds do not
-/// hang on the seed.
+/// Measured over such files of seeds 1 to 40: of the wire's numbers 7 is the
+/// rarest and comes at least 25 times, of the table's 22, at least 117 times; 23
+/// comes 351 to 756 times, and a revoke is refused at least 43 times. So the
+/// bounds do not depend on the seed.
 #[test]
 fn random_files_reach_every_refusal() {
     let answers = answer_file(&random_file(1, 40_000));

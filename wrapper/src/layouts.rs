@@ -18,9 +18,10 @@ pub struct Piece {
     pub offset: u64,
     /// How many bytes the answer is good for; for the rest ask again after them.
     pub length: u64,
-    /// The mirrors: of a write all, or with flag 8 one; of a read one. The one is that whose data server of this stripe
-    /// has the highest efficiency, the lowest number on a tie, so it may differ from piece to piece. Any other of the
-    /// layout may serve a read too, but for bytes that were written under flag 8 and are not yet committed.
+    /// The mirrors: of a write all, or with flag 8 one; of a read one. That one is the mirror whose data server of this
+    /// stripe has the highest efficiency, the lowest number on a tie, so it may differ from piece to piece. Any other of
+    /// the layout may serve a read too, but for bytes that were written under flag 8 and are not yet committed: they are
+    /// read from the mirror that they were written to, also where a lookup through another body names another.
     pub mirrors: MirrorSet,
 }
 

@@ -93,7 +93,7 @@ fn body_of<'a>(named: &Named<'a>, source: &Source) -> &'a [u8] {
     named.bodies[usize::from(source.2)]
 }
 
-/// A number of an accepted body.
+/// A number of a body; 0 where its bytes run out.
 #[inline(always)]
 fn number(body: &[u8], at: usize) -> u32 {
     word(body, at).unwrap_or(0)

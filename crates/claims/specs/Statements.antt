@@ -108,7 +108,7 @@ pub record OneMirrorNamed (b : Body) (l : Layout) (p : Piece) : Type 0 where
 abbrev pub InPiece : ℕ → Piece → Type 0
 InPiece x p = (p .offset ≤ x) × (x < p .offset + p .length)
 
--- the mirrors by the sentence that C-12 replaced: "each mirror is judged by the efficiency of its first data server"
+-- the mirrors by 01's own sentence: "each mirror is judged by the efficiency of its first data server"
 abbrev pub byFirstServers : Bool → List ℕ → Layout → ℕ
 byFirstServers write body l = mirrorsNamed write body l 0
 

@@ -365,17 +365,16 @@ pub fn reads_go_where_writes_go()
 {}
 
 // "A read names one mirror: the highest efficiency, lowest number on a tie; each mirror is judged by the efficiency
-// of the server that holds the stripe of the request's first byte." (C-12) "A write names all mirrors .. or with flag
-// 8 only the mirror that this same rule picks in the write's own body." `stripeIn l offset` is that byte's stripe, and
+// of the server that holds the stripe of the request's first byte." (C-12) "A write names .. with flag 8 only the mirror
+// that this same rule picks in the write's own body." `stripeIn l offset` is that byte's stripe, and
 // `efficiencyOf body starts k m` is the efficiency of mirror m's server of stripe k
 // (`mirrors_are_judged_by_their_servers`). The mirrors are a set of bits.
 pub fn mirrors_are_named_by_efficiency()
     ensures { λ r. ⌜ ((write : Bool) (t : Table) (store : List ℕ) (offset len : ℕ) (p : Piece) (l : Layout)
         → routed write t store offset len ≡ accepted p → layoutIn store (p .slot .0) ≡ accepted l
-        → ((write && not (bit 8 (l .summary .flags))) ≡ true → p .mirrors ≡ 2 ^ l .summary .mirrors - 1)
-        × ((write && not (bit 8 (l .summary .flags))) ≡ false → (b : ℕ) × (p .mirrors ≡ 2 ^ b)
+        → (write && not (bit 8 (l .summary .flags))) ≡ false → (b : ℕ) × (p .mirrors ≡ 2 ^ b)
         × BestOf (efficiencyOf (bodyIn (slotAt store (p .slot .0))) (l .starts) (stripeIn l offset))
-        (l .summary .mirrors) b)) ⌝ }
+        (l .summary .mirrors) b) ⌝ }
 {}
 
 // The number that mirror m is judged by at stripe k is the efficiency of the data server that is read at its start.
@@ -389,21 +388,22 @@ pub fn mirrors_are_judged_by_their_servers()
 // have the same stripe name the same mirror, and those whose pieces have a byte in common have the same stripe,
 // whatever the requests, tables and stores are. So a read under the body of a write under flag 8 goes to the data
 // server that has what was written: "A client that has outstanding unstable writes made to single node .. MUST do all
-// reads from that same node" (RFC 8435, 8.2.4).
+// reads from that same node" (RFC 8435, 8.2.4; that node has no other stripe).
 pub fn each_stripe_has_its_mirror()
     ensures { λ r. ⌜ ((b : Body) (l : Layout) → layoutBody b ≡ accepted l → (p q : Piece) → OneMirrorNamed b l p
         → OneMirrorNamed b l q → (p .stripe .0 ≡ q .stripe .0 → p .mirrors ≡ q .mirrors)
         × ((x : ℕ) → InPiece x p → InPiece x q → p .stripe .0 ≡ q .stripe .0)) ⌝ }
 {}
 
-// A write without flag 8 names all mirrors, whatever the efficiencies are: C-12 does not move it.
+// "A write names all mirrors, as a set of bits", without flag 8, whatever the efficiencies of its stripe are.
 pub fn writes_without_flag_8_name_all_mirrors()
     ensures { λ r. ⌜ ((t : Table) (store : List ℕ) (offset len : ℕ) (p : Piece) (l : Layout)
         → routed true t store offset len ≡ accepted p → layoutIn store (p .slot .0) ≡ accepted l
         → bit 8 (l .summary .flags) ≡ false → p .mirrors ≡ 2 ^ l .summary .mirrors - 1) ⌝ }
 {}
 
-// With one server a mirror C-12 moves no answer: the mirrors are those by the first servers (`byFirstServers`).
+// With one server a mirror the mirrors are those by the first servers (`byFirstServers`): the sentences of 01 and of
+// C-12 agree there.
 pub fn with_one_server_the_first_is_judged()
     ensures { λ r. ⌜ ((write : Bool) (t : Table) (store : List ℕ) (offset len : ℕ) (p : Piece) (l : Layout)
         → routed write t store offset len ≡ accepted p → layoutIn store (p .slot .0) ≡ accepted l

@@ -141,6 +141,10 @@ module _ (write : Bool) (t : Table) (store : List ℕ) (offset len : ℕ) where
           let i : v .grant .slot ≡ p .slot .0 = ap (λ (q : Piece). q .slot .0) (r .piece) in
           same-answer (sym (w .layout) ∙ (ap (λ (j : ℕ). layoutIn store j) i ∙ h))
 
+      some-servers : 1 ≤ l .summary .servers
+      unfolding layoutIn
+      some-servers = accepted-limits (bodyIn (slotAt store (p .slot .0))) l h .servers-some
+
       -- with more than one server, each byte of the piece is in the unit of the first
       bytes-in-unit : 1 < l .summary .servers → (x : ℕ) → offset ≤ x → x < offset + p .length → x / l .summary .unit ≡ offset / l .summary .unit
       unfolding pieceAt
@@ -160,7 +164,7 @@ module _ (write : Bool) (t : Table) (store : List ℕ) (offset len : ℕ) where
       pub piece-in-unit : 1 < l .summary .servers → offset / l .summary .unit ≡ (offset + p .length - 1) / l .summary .unit
       piece-in-unit k = let a = piece-in-request in sym (bytes-in-unit k (offset + p .length - 1) (omega arith) (omega arith))
 
-      pub its-stripe : p .stripe .0 ≡ stripeIn l offset
+      its-stripe : p .stripe .0 ≡ stripeIn l offset
       unfolding pieceAt
       its-stripe = ap (λ (q : Piece). q .stripe .0) (sym (by-parts .piece)) ∙ ap (λ (y : Layout). stripeIn y offset) its-layout
 
@@ -174,32 +178,24 @@ module _ (write : Bool) (t : Table) (store : List ℕ) (offset len : ℕ) where
 
       -- either way it is the stripe of each of the piece's bytes
       pub stripe-of-byte : (x : ℕ) → offset ≤ x → x < offset + p .length → p .stripe .0 ≡ stripeIn l x
-      unfolding layoutIn
       stripe-of-byte x lo hi = go (decLt 1 (l .summary .servers))
         where
-          some : 1 ≤ l .summary .servers
-          some = accepted-limits (bodyIn (slotAt store (p .slot .0))) l h .servers-some
-
           go : Dec (1 < l .summary .servers) → p .stripe .0 ≡ stripeIn l x
           go (yes k) =
               stripe-of-each k x lo hi ∙ stripe-by-unit (l .summary .unit) (l .summary .servers) x (x / l .summary .unit) k refl
           go (no k) =
-              let s = some in
+              let s = some-servers in
               stripe-of-one (omega arith) ∙ one-stripe (l .summary .unit) (l .summary .servers) x (omega arith)
 
       -- the stripe and the mirrors are the layout's
       pub stripe-below : p .stripe .0 < l .summary .servers
-      unfolding layoutIn
       stripe-below = go (decLt 1 (l .summary .servers))
         where
-          some : 1 ≤ l .summary .servers
-          some = accepted-limits (bodyIn (slotAt store (p .slot .0))) l h .servers-some
-
           go : Dec (1 < l .summary .servers) → p .stripe .0 < l .summary .servers
           go (yes k) =
               let e = its-stripe ∙ sym (stripe-by-unit (l .summary .unit) (l .summary .servers) offset (offset / l .summary .unit) k refl) in
               rw e (mod-lt (offset / l .summary .unit) (omega arith))
-          go (no k) = let s = some in let e = stripe-of-one (omega arith) in omega arith
+          go (no k) = let s = some-servers in let e = stripe-of-one (omega arith) in omega arith
 
       pub its-mirrors : p .mirrors ≡ mirrorsNamed write (bodyIn (slotAt store (p .slot .0))) l (stripeIn l offset)
       unfolding pieceAt
@@ -209,6 +205,10 @@ module _ (write : Bool) (t : Table) (store : List ℕ) (offset len : ℕ) where
           ap (λ (q : Piece). q .mirrors) (sym (by-parts .piece))
           ∙ (ap (λ (j : ℕ). mirrorsNamed write (bodyIn (slotAt store j)) (v .layout) (stripeIn (v .layout) offset)) i
           ∙ ap (λ (y : Layout). mirrorsNamed write (bodyIn (slotAt store (p .slot .0))) y (stripeIn y offset)) its-layout)
+
+      -- they go by the piece's stripe
+      pub mirrors-by-stripe : p .mirrors ≡ mirrorsNamed write (bodyIn (slotAt store (p .slot .0))) l (p .stripe .0)
+      mirrors-by-stripe = its-mirrors ∙ ap (λ (k : ℕ). mirrorsNamed write (bodyIn (slotAt store (p .slot .0))) l k) (sym its-stripe)
 
       pub mirrors-below : (1 ≤ p .mirrors) × (p .mirrors < 2 ^ l .summary .mirrors)
       unfolding layoutIn

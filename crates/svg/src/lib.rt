@@ -73,7 +73,7 @@ pub fn print_entry(k: u64, x: u64, y: u64, words_x: u64, words_y: u64) {
     );
 }
 
-// The name of what is along an edge, up to a point.
+// The name of what is along an edge; it ends at x.
 pub fn print_edge(name: &[u8], x: u64, y: u64) {
     let values = [x, y];
     print_fields(

@@ -23,7 +23,7 @@ pub fn corruption_and_repair(random: &mut Random, state: &State, calls: Vec<Tabl
     cases
 }
 
-/// The cases of a [`refused_revoke`].
+/// How many cases a [`refused_revoke`] has.
 pub const REVOKE_CASES: usize = 3;
 
 /// A revoke that is refused, by a store that is too short, and its repair.

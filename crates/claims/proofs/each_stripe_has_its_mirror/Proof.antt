@@ -1,4 +1,4 @@
--- `claims::each_stripe_has_its_mirror` takes two pieces to what they have in common: the body and the stripe, or the body and a byte.
+-- `claims::each_stripe_has_its_mirror` joins what `route` says of the mirrors and of the stripe of two pieces.
 use Prim.Native.Nat.{ℕ, _+_, _≤_, _<_}
 use mathlib.Core.Path.{_≡_, sym, ap, _∙_}
 use Rattle.base.specs.Answer.{accepted}
@@ -8,7 +8,7 @@ use Rattle.route.specs.Mirrors.{bestMirror, only}
 use Rattle.route.specs.Routes.{layoutIn, stripeIn}
 use Rattle.route.specs.declared.piece.Piece.{Piece}
 use Rattle.route.proofs.MirrorLaws.{one-named}
-use Rattle.route.proofs.PieceLaws.{its-mirrors, its-stripe, piece-in-request, stripe-of-byte}
+use Rattle.route.proofs.PieceLaws.{mirrors-by-stripe, piece-in-request, stripe-of-byte}
 use Rattle.claims.specs.Statements.{InPiece, OneMirrorNamed}
 use Rattle.claims.proofs.each_stripe_has_its_mirror.Statement.{statement}
 use Rattle.claims.proofs.each_stripe_has_its_mirror.Tie as tie
@@ -25,11 +25,9 @@ module _ (b : Body) (l : Layout) (e : layoutBody b ≡ accepted l) (p : Piece) (
   mirror-of : p .mirrors ≡ named-at b l (p .stripe .0)
   unfolding named-at
   mirror-of =
-      let body = bodyIn (slotAt (r .store) (p .slot .0)) in
-      its-mirrors (r .write) (r .table) (r .store) (r .offset) (r .len) p (r .answered) l at-slot
-      ∙ (one-named (r .write) body l (stripeIn l (r .offset)) (r .one)
-      ∙ (ap (λ (s : Body). named-at s l (stripeIn l (r .offset))) (r .under)
-      ∙ ap (named-at b l) (sym (its-stripe (r .write) (r .table) (r .store) (r .offset) (r .len) p (r .answered) l at-slot))))
+      mirrors-by-stripe (r .write) (r .table) (r .store) (r .offset) (r .len) p (r .answered) l at-slot
+      ∙ (one-named (r .write) (bodyIn (slotAt (r .store) (p .slot .0))) l (p .stripe .0) (r .one)
+      ∙ ap (λ (s : Body). named-at s l (p .stripe .0)) (r .under))
 
   stripe-at : (x : ℕ) → InPiece x p → p .stripe .0 ≡ stripeIn l x
   stripe-at x i =

@@ -32,6 +32,7 @@ const CHOICES: [(&[&[u32]], &[u32]); 9] = [
     (&[&[HALF - 1, HALF, HALF], &[HALF, HALF - 1, HALF + 1]], &[2, 1, 2]),
     // One server a mirror: every byte is at stripe 0.
     (&[&[3], &[8], &[8]], &[2]),
+    // Eight mirrors.
     (&[&[1, 8], &[2, 7], &[3, 6], &[4, 5], &[5, 4], &[6, 3], &[7, 2], &[8, 1]], &[128, 1]),
     (&[&[0, 4], &[0, 6], &[0, 6], &[0, 1], &[5, 2], &[0, 6], &[5, 3], &[1, 5]], &[16, 2]),
 ];
@@ -57,7 +58,7 @@ fn unit_ends(best: &[u32]) -> impl Iterator<Item = (u64, u32)> + '_ {
     (0..).zip(rounds).flat_map(|(number, &best)| [(number * UNIT, best), (number * UNIT + UNIT - 1, best)])
 }
 
-/// One byte, the rest of the unit, and requests that go on into later units.
+/// One byte, as many as a unit has, and more, into later units.
 const LENGTHS: [u64; 4] = [1, UNIT, UNIT + 1, 5 * UNIT];
 
 /// Reads and writes through RW. Flag 8 decides what the write names, and the
@@ -83,8 +84,8 @@ fn through_rw() {
 fn through_read() {
     for (rows, best) in CHOICES {
         let turned: Vec<&[u32]> = rows.iter().rev().copied().collect();
-        let rw = whole_file(IOMODE_RW, &layout(&turned, 12));
-        let rw_events = [vec![], vec![rw.clone()], vec![rw, recall(IOMODE_RW, 0, LAST_BYTE)]];
+        let rw = |flags| whole_file(IOMODE_RW, &layout(&turned, flags));
+        let rw_events = [vec![], vec![rw(12)], vec![rw(8), recall(IOMODE_RW, 0, LAST_BYTE)]];
         for (rw_events, flags) in rw_events.iter().flat_map(|events| [0, 8].map(|flags| (events, flags))) {
             let read = whole_file(IOMODE_READ, &layout(rows, flags));
             let state = after(&[&[read][..], rw_events].concat());
