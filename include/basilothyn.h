@@ -239,9 +239,9 @@ struct basilothyn_locate_result {
 struct basilothyn_locate_result basilothyn_locate_read(struct basilothyn_table table, const uint8_t *store,
                                                        size_t store_length, uint64_t offset, uint64_t length);
 
-/* Where a write goes: to every mirror, or with flag 8 to one, picked as for a read, piece by piece. Bytes that were
- * written unstably to one mirror are read from it until COMMIT is answered; a lookup for a read that READ serves, or
- * RW under another body, may name another. It is served by RW. Refusals in order: 20, 5, 17. Ask again likewise. */
+/* Where a write goes: to every mirror, or with flag 8 to one, picked as for a read, piece by piece. It is served by
+ * RW. Bytes that were written unstably to one mirror are read from it until COMMIT is answered; a lookup for a read
+ * that READ serves, or RW under another body, may name another. Refusals in order: 20, 5, 17. Ask again likewise. */
 struct basilothyn_locate_result basilothyn_locate_write(struct basilothyn_table table, const uint8_t *store,
                                                         size_t store_length, uint64_t offset, uint64_t length);
 

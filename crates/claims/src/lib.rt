@@ -365,8 +365,8 @@ pub fn reads_go_where_writes_go()
 {}
 
 // "A read names one mirror: the highest efficiency, lowest number on a tie; each mirror is judged by the efficiency
-// of the server that holds the stripe of the request's first byte." (C-12) "A write names .. with flag 8 only the mirror
-// that this same rule picks in the write's own body." `stripeIn l offset` is that byte's stripe, and
+// of the server that holds the stripe of the request's first byte." (C-12) "A write names .. with flag 8 only the
+// mirror that this same rule picks in the write's own body." `stripeIn l offset` is that byte's stripe, and
 // `efficiencyOf body starts k m` is the efficiency of mirror m's server of stripe k
 // (`mirrors_are_judged_by_their_servers`). The mirrors are a set of bits.
 pub fn mirrors_are_named_by_efficiency()
@@ -388,7 +388,7 @@ pub fn mirrors_are_judged_by_their_servers()
 // have the same stripe name the same mirror, and those whose pieces have a byte in common have the same stripe,
 // whatever the requests, tables and stores are. So a read under the body of a write under flag 8 goes to the data
 // server that has what was written: "A client that has outstanding unstable writes made to single node .. MUST do all
-// reads from that same node" (RFC 8435, 8.2.4; that node has no other stripe).
+// reads from that same node" (RFC 8435, 8.2.4), of the bytes that it has.
 pub fn each_stripe_has_its_mirror()
     ensures { λ r. ⌜ ((b : Body) (l : Layout) → layoutBody b ≡ accepted l → (p q : Piece) → OneMirrorNamed b l p
         → OneMirrorNamed b l q → (p .stripe .0 ≡ q .stripe .0 → p .mirrors ≡ q .mirrors)
