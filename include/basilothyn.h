@@ -38,7 +38,7 @@ enum {
     BASILOTHYN_SLOTS = 8,            /* the slots of a store, each for one layout body */
     BASILOTHYN_SLOT_LENGTH = 4096,   /* the bytes of a slot */
     BASILOTHYN_STORE_LENGTH = 32768, /* the bytes of a store */
-    BASILOTHYN_STACK = 20480         /* enough stack for any call, its arguments and its result; measured */
+    BASILOTHYN_STACK = 24576         /* enough stack for any call, its arguments and its result; measured */
 };
 
 /* The most of each in a body. */
@@ -49,7 +49,8 @@ enum {
     BASILOTHYN_ADDRESSES = 8,   /* addresses of a device */
     BASILOTHYN_VERSIONS = 8,    /* version entries of a device */
     BASILOTHYN_REPORTS = 8,     /* error reports of a LAYOUTRETURN */
-    BASILOTHYN_ERRORS = 16      /* errors of a report */
+    BASILOTHYN_ERRORS = 16,     /* errors of a report */
+    BASILOTHYN_STATISTICS = 8   /* records of statistics of a LAYOUTRETURN */
 };
 
 /* Lengths in bytes. No longer body of a kind is accepted than the longest. */
@@ -57,7 +58,10 @@ enum {
     BASILOTHYN_LONGEST_LAYOUT = 4088,
     BASILOTHYN_LONGEST_LAYOUT4 = 4116,
     BASILOTHYN_LONGEST_DEVICE = 808,
-    BASILOTHYN_LONGEST_REPORT = 3368,
+    BASILOTHYN_LONGEST_REPORT = 3368, /* the body of a LAYOUTRETURN without statistics */
+    BASILOTHYN_LONGEST_RETURN = 6856, /* and with statistics */
+    BASILOTHYN_LONGEST_NETID = 8,
+    BASILOTHYN_LONGEST_ADDRESS = 64,
     BASILOTHYN_LONGEST_FILEHANDLE = 128,
     BASILOTHYN_DEVICE_ID_LENGTH = 16,
     BASILOTHYN_STATEID_LENGTH = 16,
@@ -98,7 +102,8 @@ enum basilothyn_refusal {
     BASILOTHYN_NO_FREE_SLOT = 24,          /* no slot is left for a new body */
     BASILOTHYN_NOTHING_HELD = 25,          /* a recall meets nothing that is held */
     BASILOTHYN_OUTPUT_TOO_SHORT = 26,      /* the output is too short */
-    BASILOTHYN_ERROR_INVALID = 27          /* an error's status or operation is not allowed */
+    BASILOTHYN_ERROR_INVALID = 27,         /* an error's status or operation is not allowed */
+    BASILOTHYN_TIME_INVALID = 28           /* a time has 1,000,000,000 nanoseconds or more, or negative seconds */
 };
 
 /* A refusal in the words above. */
@@ -132,7 +137,8 @@ static inline const char *basilothyn_refusal_text(uint32_t refusal)
         "no slot is left for a new body",
         "a recall meets nothing that is held",
         "the output is too short",
-        "an error's status or operation is not allowed"
+        "an error's status or operation is not allowed",
+        "a time has 1,000,000,000 nanoseconds or more, or negative seconds"
     };
     const char *text = refusal < sizeof texts / sizeof texts[0] ? texts[refusal] : NULL;
 
@@ -391,7 +397,9 @@ struct basilothyn_reports_result {
     size_t errors_at[BASILOTHYN_REPORTS];
 };
 
-/* Reads the body of an ff_layoutreturn4: 0 to 8 reports, and no statistics (else 8). Refusals: 1, 2, 5, 8, 27. */
+/* Reads the reports in the body of an ff_layoutreturn4, which has 0 to 8 reports and 0 to 8 records of statistics
+ * (else 8). The whole body is judged; basilothyn_read_statistics gives the statistics. Refusals: 1, 2, 5, 6, 7, 8, 27,
+ * 28. */
 struct basilothyn_reports_result basilothyn_read_reports(const uint8_t *body, size_t length);
 
 /* One error: the offset of its device id (16 bytes), its status and its operation. */
@@ -424,12 +432,117 @@ struct basilothyn_write_result {
     uint64_t length;
 };
 
-/* Writes the body of an ff_layoutreturn4: the first count heads, and one list of errors, error_count long: first
- * those of heads[0], heads[0].errors of them, then those of heads[1], and so on. A report has 1 to 16 errors; an
- * output of BASILOTHYN_LONGEST_REPORT bytes is always enough. Bytes of the output after the body stay as they are.
- * Refusals in order: 8 (more than 8 reports, a list whose length is not the sum of the heads' errors), then report by
- * report 5, 8, 27, then 26. */
+/* Writes the body of an ff_layoutreturn4 without statistics: the first count heads, and one list of errors,
+ * error_count long: first those of heads[0], heads[0].errors of them, then those of heads[1], and so on. A report has
+ * 1 to 16 errors; an output of BASILOTHYN_LONGEST_REPORT bytes is always enough. Bytes of the output after the body
+ * stay as they are. Refusals in order: 8 (more than 8 reports, a list whose length is not the sum of the heads'
+ * errors), then report by report 5, 8, 27, then 26. */
 struct basilothyn_write_result basilothyn_write_report(uint32_t count, struct basilothyn_report_heads heads,
+                                                       const struct basilothyn_error *errors, size_t error_count,
+                                                       uint8_t *out, size_t out_length);
+
+/* ---- statistics, for LAYOUTRETURN
+ *
+ * The structures of RFC 8435, 9.2. Counters are cumulative: they are not set back to 0 when they are sent. */
+
+/* nfstime4, here a duration. Seconds are signed on the wire: 2^63 and more are negative, and refused with 28, as are
+ * 1,000,000,000 nanoseconds and more. */
+struct basilothyn_time {
+    uint64_t seconds;
+    uint32_t nanoseconds;
+};
+
+/* io_info4: how many I/Os of contiguous bytes there were in the range, and how many bytes they transferred. */
+struct basilothyn_io_info {
+    uint64_t count;
+    uint64_t bytes;
+};
+
+/* ff_io_latency4: what was asked for and what was done, in operations and bytes; the bytes that were asked for and,
+ * because of an error, not delivered; how long calls were under way, and the sum of the round trips of those that ended. */
+struct basilothyn_latency {
+    uint64_t ops_requested;
+    uint64_t bytes_requested;
+    uint64_t ops_completed;
+    uint64_t bytes_completed;
+    uint64_t bytes_not_delivered;
+    struct basilothyn_time busy;
+    struct basilothyn_time completion;
+};
+
+/* Of the bytes of a netid, an address and a filehandle the first length count; the others are spare, 0 after reading
+ * and ignored in writing. The length is 1 to 8, 1 to 64 and 1 to 128 (else 8). */
+struct basilothyn_netid {
+    uint32_t length;
+    uint8_t bytes[BASILOTHYN_LONGEST_NETID];
+};
+
+struct basilothyn_address_text {
+    uint32_t length;
+    uint8_t bytes[BASILOTHYN_LONGEST_ADDRESS];
+};
+
+struct basilothyn_filehandle {
+    uint32_t length;
+    uint8_t bytes[BASILOTHYN_LONGEST_FILEHANDLE];
+};
+
+/* netaddr4. Neither the netid's class nor the text's form is looked at. */
+struct basilothyn_netaddr {
+    struct basilothyn_netid netid;
+    struct basilothyn_address_text text;
+};
+
+/* ff_layoutupdate4: the address and the filehandle that were used; READ under read, WRITE and COMMIT under write; the
+ * time over which all of it was counted; local is 1 where the client's cache served the I/O, else 0. */
+struct basilothyn_layout_update {
+    struct basilothyn_netaddr address;
+    struct basilothyn_filehandle filehandle;
+    struct basilothyn_latency read;
+    struct basilothyn_latency write;
+    struct basilothyn_time duration;
+    uint32_t local;
+};
+
+/* ff_iostats4: the range (else 5) and the layout's stateid, how much was read and written there, and the device. */
+struct basilothyn_statistic {
+    uint64_t offset;
+    uint64_t length;
+    uint8_t stateid[BASILOTHYN_STATEID_LENGTH];
+    struct basilothyn_io_info read;
+    struct basilothyn_io_info write;
+    uint8_t device[BASILOTHYN_DEVICE_ID_LENGTH];
+    struct basilothyn_layout_update update;
+};
+
+/* The first count records are those of the body, the others are 0. */
+struct basilothyn_statistics_result {
+    uint32_t refusal;
+    uint32_t count;
+    struct basilothyn_statistic statistics[BASILOTHYN_STATISTICS];
+};
+
+/* Reads the statistics in the body of an ff_layoutreturn4. The whole body is judged, the reports too, and refused
+ * exactly as basilothyn_read_reports refuses it: 1, 2, 5, 6, 7, 8, 27, 28, whichever is met first in the order of the
+ * bytes. In a record: 5 after the length; then netid, address and filehandle, 8 after the length and 6 after the
+ * padding; 28 after each of the five times; 7 at its end. */
+struct basilothyn_statistics_result basilothyn_read_statistics(const uint8_t *body, size_t length);
+
+/* What is to be written: the first count heads and the first statistic_count records. The others are not looked at. */
+struct basilothyn_outgoing {
+    uint32_t count;
+    struct basilothyn_report_head heads[BASILOTHYN_REPORTS];
+    uint32_t statistic_count;
+    struct basilothyn_statistic statistics[BASILOTHYN_STATISTICS];
+};
+
+/* Writes the body of an ff_layoutreturn4 with statistics: reports and one list of errors as in basilothyn_write_report,
+ * then the records. An output of BASILOTHYN_LONGEST_RETURN bytes is always enough. Bytes of the output after the body
+ * stay as they are. Refusals in order: 8 (more than 8 reports, a list whose length is not the sum of the heads' errors,
+ * more than 8 records), then report by report 5, 8, 27, then record by record 5, 8 (the length of netid, address,
+ * filehandle), 28 (read.busy, read.completion, write.busy, write.completion, duration), 7 (local is above 1), then 26.
+ */
+struct basilothyn_write_result basilothyn_write_return(struct basilothyn_outgoing outgoing,
                                                        const struct basilothyn_error *errors, size_t error_count,
                                                        uint8_t *out, size_t out_length);
 

@@ -1,19 +1,24 @@
 //! The tuned Rust against the independent implementation, on aimed and random input, good and damaged, before anything is measured.
 
+use crate::expected;
 use crate::forms::{plain_location, tuned_event, tuned_form};
 use crate::tuned;
 use crate::tuned::layout4::Layout4;
 use crate::tuned::locate::{locate_read, locate_write, Location};
+use crate::tuned::returns::{read_reports, read_statistics};
+use basilothyn::raw::{ErrorRecord, Outgoing, ReportsResult, StatisticsResult};
 use case_files::generate::mixed::random_file;
 use case_files::generate::{
-    file_ends, granted_bytes, layout4s, layouts, locates, overlaps, segment_limits, slot_limits, unsound,
+    file_ends, granted_bytes, layout4s, layouts, locates, overlaps, reports_read, segment_limits, slot_limits,
+    statistics_read, statistics_written, unsound,
 };
-use independent::cases::{Case, CaseFile, CaseFileWriter};
+use independent::cases::{Case, CaseFile, CaseFileWriter, ReturnWrite};
 use independent::io_request::{Direction, IoRequest};
 use independent::layout::read_layout_body;
 use independent::layout4::read_layout4;
 use independent::range::byte_range;
 use independent::refusal::Refusal;
+use independent::report::{read_layout_return, write_layout_return};
 use independent::state::State;
 use independent::store::STORE_LENGTH;
 use independent::table_cases::TableCase;
@@ -29,9 +34,10 @@ struct Both {
     table: tuned::table::Table,
     store: Vec<u8>,
     borrowed: usize,
-    /// How often each answer to an event or lookup came, and the layout bodies that were read.
+    /// How often each answer to an event or lookup came, the bodies that were read, and the layout returns written.
     answers: BTreeMap<u32, usize>,
     bodies: usize,
+    written: usize,
 }
 
 /// What was compared, or the first difference.
@@ -45,9 +51,10 @@ pub fn compare() -> Result<String, String> {
     let answers: Vec<String> = both.answers.iter().map(|(answer, times)| format!("{answer}: {times}")).collect();
     let lists: u64 = FILES.iter().map(|(files, _)| files).sum();
     Ok(format!(
-        "Tuned Rust against plain Rust: the aimed cases of tests/ and {lists} random lists, in all {calls} events and lookups, and {} bodies; the same answers,
-tables and stores. Answers to events and lookups: {}.",
+        "Tuned Rust against plain Rust: the aimed cases of tests/ and {lists} random lists, in all {calls} events and lookups, {} bodies read and {} layout returns written; the
+same answers, tables, stores and outputs. Answers to events and lookups: {}.",
         both.bodies,
+        both.written,
         answers.join(", ")
     ))
 }
@@ -57,6 +64,9 @@ fn aimed_file() -> Vec<u8> {
     let mut cases = CaseFileWriter::default();
     layouts::add(&mut cases);
     layout4s::add(&mut cases);
+    reports_read::add(&mut cases);
+    statistics_read::add(&mut cases);
+    statistics_written::add(&mut cases);
     file_ends::add(&mut cases);
     overlaps::add(&mut cases);
     segment_limits::add(&mut cases);
@@ -91,6 +101,16 @@ impl Both {
             Case::Layout4(bytes) => {
                 self.bodies += 1;
                 same("the layout4", plain_layout4(bytes), tuned::layout4::read_layout4(bytes))
+            }
+            Case::ReportRead(body) => {
+                self.bodies += 1;
+                let plain = read_layout_return(body);
+                same("the reports", expected::reports(plain.clone()), reports_result(body))?;
+                same("the statistics", expected::statistics(plain), statistics_result(body))
+            }
+            Case::ReturnWrite(case) => {
+                self.written += 1;
+                compare_writing(case)
             }
             _ => Ok(()),
         }
@@ -158,6 +178,34 @@ fn plain_layout4(bytes: &[u8]) -> Result<Layout4<'_>, u32> {
     let read = read_layout4(bytes).map_err(number)?;
     let range = byte_range(read.offset, read.length).map_err(number)?;
     Ok(Layout4 { first: range.first, last: range.last, iomode: read.iomode, body: read.body(bytes) })
+}
+
+fn reports_result(body: &[u8]) -> ReportsResult {
+    read_reports(body).unwrap_or_else(|refusal| ReportsResult { refusal, ..ReportsResult::default() })
+}
+
+fn statistics_result(body: &[u8]) -> StatisticsResult {
+    read_statistics(body).unwrap_or_else(|refusal| StatisticsResult { refusal, ..StatisticsResult::default() })
+}
+
+/// The length or refusal, and every byte of the output.
+fn compare_writing(case: &ReturnWrite) -> Result<(), String> {
+    let (reports, statistics) = (&case.reports, &case.statistics);
+    let mut plain = vec![165; reports.output_length];
+    let (heads, errors) = (&reports.heads, &reports.errors);
+    let length =
+        write_layout_return(reports.report_count, heads, errors, case.statistics_count, statistics, &mut plain);
+    let outgoing = Outgoing {
+        count: reports.report_count,
+        heads: heads.each_ref().map(expected::head),
+        statistic_count: case.statistics_count,
+        statistics: statistics.each_ref().map(expected::statistic),
+    };
+    let errors: Vec<ErrorRecord> = errors.iter().map(expected::error_record).collect();
+    let mut out = vec![165; reports.output_length];
+    let answered = tuned::by_value::write_return(outgoing, &errors, &mut out);
+    same("the written length", expected::written(length), answered)?;
+    same("the written bytes", plain, out)
 }
 
 fn same<T: PartialEq + Debug>(what: &str, expected: T, answered: T) -> Result<(), String> {

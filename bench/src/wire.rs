@@ -7,7 +7,7 @@ use basilothyn::raw::{self, ErrorRecord, ReportHeads};
 use independent::binding::{bind, BindRequest};
 use independent::device::read_device_body;
 use independent::layout::read_layout_body;
-use independent::report::{read_reports, write_reports, DeviceError, ReportHead};
+use independent::report::{read_layout_return, write_reports, DeviceError, ReportHead};
 use independent::samples::bodies::{encode_reports, ReportPlan};
 use std::hint::black_box;
 
@@ -61,16 +61,16 @@ fn report_body() -> Vec<u8> {
 
 pub fn reports_read() -> Row {
     let body = report_body();
-    assert!(raw::read_reports(&body).refusal == 0 && read_reports(&body).is_ok() && rpcgen::read_reports(&body));
+    assert!(raw::read_reports(&body).refusal == 0 && read_layout_return(&body).is_ok() && rpcgen::read_reports(&body));
     let name = format!("report body of {} bytes, read", body.len());
-    Race::new(&name, || raw::read_reports(black_box(&body)), || read_reports(black_box(&body)))
+    Race::new(&name, || raw::read_reports(black_box(&body)), || read_layout_return(black_box(&body)))
         .rpcgen(|| rpcgen::read_reports(black_box(&body)))
         .run()
 }
 
 pub fn reports_written() -> Row {
     let body = report_body();
-    let read = read_reports(&body).expect("a good body");
+    let read = read_layout_return(&body).expect("a good body");
     let heads: [ReportHead; 8] = read.heads.try_into().expect("eight reports");
     let head = |h: &ReportHead| raw::ReportHead {
         offset: h.offset,

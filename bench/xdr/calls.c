@@ -37,11 +37,14 @@ int rpcgen_read_reports(char *bytes, unsigned length)
     return whole;
 }
 
-/* The reports to be written: decoded once, before anything is measured. */
+/* What is to be written: decoded once for each body, before anything is measured. */
 static ff_layoutreturn4 kept;
 
 int rpcgen_keep_reports(char *bytes, unsigned length)
 {
+    /* A decoder fills the lists that it finds, however long they are. */
+    xdr_free((xdrproc_t)xdr_ff_layoutreturn4, &kept);
+    memset(&kept, 0, sizeof kept);
     return decode(bytes, length, (xdrproc_t)xdr_ff_layoutreturn4, &kept);
 }
 

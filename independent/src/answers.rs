@@ -1,18 +1,16 @@
 //! The line that a case prints, and all the lines of a case file.
 
 use crate::binding::{bind, Binding, Identity};
-use crate::cases::{Case, CaseFile, Ending, ReportWrite};
+use crate::cases::{Case, CaseFile, Ending};
 use crate::device::{read_device_body, Address, Device, NetidClass, VersionEntry};
 use crate::layout::{read_layout_body, LayoutSummary};
 use crate::layout4::{read_layout4, Layout4};
 use crate::refusal::Refusal;
-use crate::report::{read_reports, write_reports, DeviceError, Reports};
+use crate::report::read_layout_return;
+use crate::report_lines::{layout_return_text, report_write_line, return_write_line};
 use crate::state::State;
 use crate::table_lines::table_case_line;
 use crate::xdr::Extent;
-
-/// "the output is filled with the byte 165 before the call"
-const OUTPUT_FILL: u8 = 165;
 
 /// Everything printed for a case file: one line a case, then how it ended.
 pub fn answer_file(bytes: &[u8]) -> String {
@@ -38,14 +36,15 @@ pub fn answer_line(state: &mut State, case: &Case) -> String {
         Case::Layout4(bytes) => line("layout4", read_layout4(bytes), layout4_text),
         Case::Device(body) => line("device", read_device_body(body), device_text),
         Case::Bind(request) => line("bind", bind(request), binding_text),
-        Case::ReportRead(body) => line("report-read", read_reports(body), reports_text),
+        Case::ReportRead(body) => line("report-read", read_layout_return(body), layout_return_text),
         Case::ReportWrite(case) => report_write_line(case),
+        Case::ReturnWrite(case) => return_write_line(case),
         Case::Table(case) => table_case_line(state, case),
     }
 }
 
 /// "A refusal prints the case's name and the number".
-fn line<T>(name: &str, outcome: Result<T, Refusal>, text: impl Fn(&T) -> String) -> String {
+pub fn line<T>(name: &str, outcome: Result<T, Refusal>, text: impl Fn(&T) -> String) -> String {
     match outcome {
         Ok(value) => format!("{name} {}", text(&value)),
         Err(refusal) => format!("{name} refused {}", refusal.number()),
@@ -111,37 +110,12 @@ fn binding_text(binding: &Binding) -> String {
     )
 }
 
-fn reports_text(reports: &Reports) -> String {
-    let mut text = format!("reports={}", reports.heads.len());
-    let mut rest = reports.errors.as_slice();
-    for head in &reports.heads {
-        let (own, later) = rest.split_at(head.error_count as usize);
-        let stateid = hex(&head.stateid);
-        let errors = joined(own.iter(), "+", error_text);
-        text.push_str(&format!(" offset={},length={},stateid={stateid},errors={errors}", head.offset, head.length));
-        rest = later;
-    }
-    text
-}
-
-fn error_text(error: &DeviceError) -> String {
-    format!("{}/{}/{}", hex(&error.device_id), error.status, error.operation)
-}
-
-/// The output is printed whether the case is accepted or refused.
-fn report_write_line(case: &ReportWrite) -> String {
-    let mut output = vec![OUTPUT_FILL; case.output_length];
-    let outcome = write_reports(case.report_count, &case.heads, &case.errors, &mut output);
-    let head = line("report-write", outcome, |length| format!("length={length}"));
-    format!("{head} output={}", hex(&output))
-}
-
-fn joined<T>(items: impl Iterator<Item = T>, between: &str, text: impl Fn(T) -> String) -> String {
+pub fn joined<T>(items: impl Iterator<Item = T>, between: &str, text: impl Fn(T) -> String) -> String {
     items.map(text).collect::<Vec<_>>().join(between)
 }
 
 /// "HEX is lowercase, two digits a byte."
-fn hex(bytes: &[u8]) -> String {
+pub fn hex(bytes: &[u8]) -> String {
     bytes.iter().map(|byte| format!("{byte:02x}")).collect()
 }
 
@@ -151,8 +125,7 @@ mod tests {
     use crate::binding::BindRequest;
     use crate::cases::CaseFileWriter;
     use crate::event::Event;
-    use crate::report::ReportHead;
-    use crate::samples::bodies::{encode_reports, DevicePlan, Layout4Head, LayoutPlan, ReportPlan, ServerPlan};
+    use crate::samples::bodies::{DevicePlan, Layout4Head, LayoutPlan, ServerPlan};
     use crate::table_cases::TableCase;
 
     fn answer_line(case: &Case) -> String {
@@ -211,36 +184,10 @@ mod tests {
     }
 
     #[test]
-    fn report_read_lines() {
-        assert_eq!(answer_line(&Case::ReportRead(&[0; 8])), "report-read reports=0");
-        let error = DeviceError { device_id: [0xab; 16], status: 5, operation: 25 };
-        let report = ReportPlan { offset: 1, length: 2, stateid: [0x0c; 16], errors: vec![error; 2] };
-        let error = format!("{}/5/25", "ab".repeat(16));
-        assert_eq!(
-            answer_line(&Case::ReportRead(&encode_reports(&[report], 0).bytes)),
-            format!("report-read reports=1 offset=1,length=2,stateid={},errors={error}+{error}", "0c".repeat(16))
-        );
-        assert_eq!(answer_line(&Case::ReportRead(&[255; 8])), "report-read refused 8");
-    }
-
-    #[test]
-    fn report_write_lines() {
-        let answer = |case: &ReportWrite| answer_line(&Case::ReportWrite(Box::new(case.clone())));
-        let mut case = ReportWrite { output_length: 9, ..Default::default() };
-        assert_eq!(answer(&case), "report-write length=8 output=0000000000000000a5");
-        case.output_length = 2;
-        assert_eq!(answer(&case), "report-write refused 26 output=a5a5");
-        case.output_length = 0;
-        case.report_count = 1;
-        case.heads[0] = ReportHead::default();
-        assert_eq!(answer(&case), "report-write refused 5 output=");
-    }
-
-    #[test]
     fn files_end_or_stop() {
         assert_eq!(answer_file(&[]), "end 0\n");
         let file = [8, 0, 0, 0, 68, 0, 0, 0, 0, 0, 0, 0, 0, 0, 1];
-        assert_eq!(answer_file(&file), "report-read reports=0\nstop 14\n");
+        assert_eq!(answer_file(&file), "report-read reports=0 statistics=0\nstop 14\n");
     }
 
     #[test]

@@ -7,13 +7,17 @@ use crate::event::Event;
 use crate::fields::Fields;
 use crate::io_request::IoRequest;
 use crate::report::{DeviceError, ReportHead, REPORT_LIMIT};
+use crate::statistic_records::{encode_statistic, parse_statistic};
+use crate::statistics::{Statistic, STATISTICS_LIMIT};
 use crate::table_cases::{encode_table_case, parse_table_case, TableCase};
 
 /// "A payload has at most 16,000 bytes."
 pub const PAYLOAD_LIMIT: usize = 16_000;
 /// The largest output that a report-write case may ask for.
 pub const OUTPUT_LIMIT: u32 = 4_096;
-/// The longest error list that a report-write case may hold.
+/// The largest output that a return-write case may ask for.
+pub const RETURN_OUTPUT_LIMIT: u32 = 8_192;
+/// The longest error list that a report-write or return-write case may hold.
 pub const ERROR_LIST_LIMIT: u32 = 128;
 
 /// The kinds of case of the wire part, by their numbers in the file.
@@ -24,6 +28,7 @@ pub mod kind {
     pub const BIND: u16 = 67;
     pub const REPORT_READ: u16 = 68;
     pub const REPORT_WRITE: u16 = 69;
+    pub const RETURN_WRITE: u16 = 78;
 }
 
 /// One case, ready to be put to the core.
@@ -35,6 +40,7 @@ pub enum Case<'a> {
     Bind(BindRequest<'a>),
     ReportRead(&'a [u8]),
     ReportWrite(Box<ReportWrite>),
+    ReturnWrite(Box<ReturnWrite>),
     Table(TableCase),
 }
 
@@ -46,6 +52,15 @@ pub struct ReportWrite {
     pub report_count: u32,
     pub heads: [ReportHead; REPORT_LIMIT as usize],
     pub errors: Vec<DeviceError>,
+}
+
+/// A case of writing reports and statistics. `statistics_count` may be more than
+/// the records that are in the payload, of which there are at most 8.
+#[derive(Clone, Debug, Default, PartialEq, Eq)]
+pub struct ReturnWrite {
+    pub reports: ReportWrite,
+    pub statistics_count: u32,
+    pub statistics: [Statistic; STATISTICS_LIMIT as usize],
 }
 
 /// How a case file ends; the number is an offset in the file.
@@ -106,6 +121,7 @@ fn parse_case(kind: u16, payload: &[u8]) -> Option<Case<'_>> {
         kind::BIND => parse_bind(payload).map(Case::Bind),
         kind::REPORT_READ => Some(Case::ReportRead(payload)),
         kind::REPORT_WRITE => parse_report_write(payload).map(Box::new).map(Case::ReportWrite),
+        kind::RETURN_WRITE => parse_return_write(payload).map(Box::new).map(Case::ReturnWrite),
         _ => parse_table_case(kind, payload).map(Case::Table),
     }
 }
@@ -124,20 +140,38 @@ fn parse_bind(payload: &[u8]) -> Option<BindRequest<'_>> {
     Some(BindRequest { mirror, stripe, supported_versions, device_id, layout_body, device_body })
 }
 
+fn parse_report_write(payload: &[u8]) -> Option<ReportWrite> {
+    let mut fields = Fields { rest: payload };
+    let case = parse_reports(&mut fields, OUTPUT_LIMIT)?;
+    fields.rest.is_empty().then_some(case)
+}
+
+/// As report-write, then "statistics count (LE4); as many records, or 8 where
+/// the count is higher".
+fn parse_return_write(payload: &[u8]) -> Option<ReturnWrite> {
+    let mut fields = Fields { rest: payload };
+    let reports = parse_reports(&mut fields, RETURN_OUTPUT_LIMIT)?;
+    let statistics_count = fields.u32()?;
+    let mut statistics = [Statistic::default(); STATISTICS_LIMIT as usize];
+    for statistic in &mut statistics[..statistics_count.min(STATISTICS_LIMIT) as usize] {
+        *statistic = parse_statistic(&mut fields)?;
+    }
+    fields.rest.is_empty().then_some(ReturnWrite { reports, statistics_count, statistics })
+}
+
 /// "output length (LE4, at most 4,096), report count (LE4), that many reports
 /// but at most 8: offset (LE8), length (LE8), stateid (16), error count (LE4);
 /// list length (LE4, at most 128), errors"
-fn parse_report_write(payload: &[u8]) -> Option<ReportWrite> {
-    let mut fields = Fields { rest: payload };
-    let output_length = fields.u32_up_to(OUTPUT_LIMIT)? as usize;
+fn parse_reports(fields: &mut Fields, output_limit: u32) -> Option<ReportWrite> {
+    let output_length = fields.u32_up_to(output_limit)? as usize;
     let report_count = fields.u32()?;
     let mut heads = [ReportHead::default(); REPORT_LIMIT as usize];
     for head in &mut heads[..report_count.min(REPORT_LIMIT) as usize] {
-        *head = parse_report_head(&mut fields)?;
+        *head = parse_report_head(fields)?;
     }
     let list_length = fields.u32_up_to(ERROR_LIST_LIMIT)?;
-    let errors = (0..list_length).map(|_| parse_device_error(&mut fields)).collect::<Option<Vec<_>>>()?;
-    fields.rest.is_empty().then_some(ReportWrite { output_length, report_count, heads, errors })
+    let errors = (0..list_length).map(|_| parse_device_error(fields)).collect::<Option<Vec<_>>>()?;
+    Some(ReportWrite { output_length, report_count, heads, errors })
 }
 
 fn parse_report_head(fields: &mut Fields) -> Option<ReportHead> {
@@ -152,6 +186,35 @@ fn parse_report_head(fields: &mut Fields) -> Option<ReportHead> {
 /// "device id (16), status (LE4), operation (LE4)"
 fn parse_device_error(fields: &mut Fields) -> Option<DeviceError> {
     Some(DeviceError { device_id: fields.fixed()?, status: fields.u32()?, operation: fields.u32()? })
+}
+
+fn encode_report_write(case: &ReportWrite) -> Vec<u8> {
+    let mut payload = Vec::new();
+    payload.extend((case.output_length as u32).to_le_bytes());
+    payload.extend(case.report_count.to_le_bytes());
+    for head in &case.heads[..case.report_count.min(REPORT_LIMIT) as usize] {
+        payload.extend(head.offset.to_le_bytes());
+        payload.extend(head.length.to_le_bytes());
+        payload.extend(head.stateid);
+        payload.extend(head.error_count.to_le_bytes());
+    }
+    payload.extend((case.errors.len() as u32).to_le_bytes());
+    for error in &case.errors {
+        payload.extend(error.device_id);
+        payload.extend(error.status.to_le_bytes());
+        payload.extend(error.operation.to_le_bytes());
+    }
+    payload
+}
+
+/// The payload of a return-write record.
+pub fn encode_return_write(case: &ReturnWrite) -> Vec<u8> {
+    let mut payload = encode_report_write(&case.reports);
+    payload.extend(case.statistics_count.to_le_bytes());
+    for statistic in &case.statistics[..case.statistics_count.min(STATISTICS_LIMIT) as usize] {
+        payload.extend(encode_statistic(statistic));
+    }
+    payload
 }
 
 /// A case file being made.
@@ -183,22 +246,12 @@ impl CaseFileWriter {
 
     /// Appends a report-write record.
     pub fn report_write(&mut self, case: &ReportWrite) {
-        let mut payload = Vec::new();
-        payload.extend((case.output_length as u32).to_le_bytes());
-        payload.extend(case.report_count.to_le_bytes());
-        for head in &case.heads[..case.report_count.min(REPORT_LIMIT) as usize] {
-            payload.extend(head.offset.to_le_bytes());
-            payload.extend(head.length.to_le_bytes());
-            payload.extend(head.stateid);
-            payload.extend(head.error_count.to_le_bytes());
-        }
-        payload.extend((case.errors.len() as u32).to_le_bytes());
-        for error in &case.errors {
-            payload.extend(error.device_id);
-            payload.extend(error.status.to_le_bytes());
-            payload.extend(error.operation.to_le_bytes());
-        }
-        self.record(kind::REPORT_WRITE, &payload);
+        self.record(kind::REPORT_WRITE, &encode_report_write(case));
+    }
+
+    /// Appends a return-write record.
+    pub fn return_write(&mut self, case: &ReturnWrite) {
+        self.record(kind::RETURN_WRITE, &encode_return_write(case));
     }
 
     /// Appends a record that concerns the table.
@@ -274,7 +327,7 @@ mod tests {
 
     #[test]
     fn an_unknown_kind_and_a_long_payload_stop() {
-        for kind in [0, 2, 3, 6, 7, 8, 10, 63, 78, 64 + 256, u16::MAX] {
+        for kind in [0, 2, 3, 6, 7, 8, 10, 63, 79, 64 + 256, 78 + 256, u16::MAX] {
             assert_eq!(ending(&record(kind, &[])), Ending::Stop(0));
         }
         assert_eq!(ending(&record(64, &[0; 16_000])), Ending::End(16_006));
@@ -308,6 +361,50 @@ mod tests {
     }
 
     #[test]
+    fn return_write_payloads_are_exact() {
+        // An output of 8,192 bytes, no report, no error, no record.
+        let good = [&[0, 32, 0, 0][..], &[0; 12]].concat();
+        assert_eq!(ending(&record(78, &good)), Ending::End(22));
+        for length in 0..16 {
+            assert_eq!(ending(&record(78, &good[..length])), Ending::Stop(0), "{length} bytes");
+        }
+        assert_eq!(ending(&record(78, &[&good[..], &[0]].concat())), Ending::Stop(0));
+        let long_output = [&[1, 32, 0, 0][..], &good[4..]].concat();
+        assert_eq!(ending(&record(78, &long_output)), Ending::Stop(0));
+        let list = |length: u8| [&good[..8], &[length, 0, 0, 0], &vec![0; length as usize * 24], &[0; 4]].concat();
+        assert_eq!(ending(&record(78, &list(128))), Ending::End(22 + 128 * 24));
+        assert_eq!(ending(&record(78, &list(129))), Ending::Stop(0));
+    }
+
+    #[test]
+    fn at_most_eight_records_stand_in_a_payload() {
+        for (count, records) in [(0, 0), (1, 1), (7, 7), (8, 8), (9, 8), (1 << 31, 8), (u32::MAX, 8)] {
+            let of_length = |length: usize| {
+                let payload = [&[0; 12][..], &u32::to_le_bytes(count), &vec![7; length]].concat();
+                record(78, &payload)
+            };
+            let length = records * 436;
+            let bytes = of_length(length);
+            let Some(Case::ReturnWrite(case)) = CaseFile::new(&bytes).next() else { panic!("no case") };
+            assert_eq!(case.statistics_count, count);
+            let read = case.statistics.iter().filter(|statistic| statistic.local == 0x0707_0707).count();
+            assert_eq!(read, records);
+            assert_eq!(ending(&of_length(length + 1)), Ending::Stop(0));
+            assert!(records == 0 || ending(&of_length(length - 1)) == Ending::Stop(0));
+        }
+    }
+
+    #[test]
+    fn the_largest_return_write_fits_a_payload() {
+        let mut case = ReturnWrite { statistics_count: 8, ..Default::default() };
+        case.reports.report_count = 8;
+        case.reports.errors = vec![DeviceError::default(); 128];
+        let payload = encode_return_write(&case);
+        assert_eq!(payload.len(), 8 + 8 * 36 + 4 + 128 * 24 + 4 + 8 * 436);
+        assert_eq!(ending(&record(78, &payload)), Ending::End(6 + payload.len()));
+    }
+
+    #[test]
     fn at_most_eight_reports_stand_in_a_payload() {
         for count in [8, 9, u32::MAX] {
             let mut payload = vec![0; 4];
@@ -332,12 +429,18 @@ mod tests {
             layout_body: &[5, 6],
             device_body: &[7],
         };
+        let mut both = ReturnWrite { reports: case.clone(), statistics_count: 2, ..Default::default() };
+        both.statistics[0].offset = 8;
+        both.statistics[1].local = 9;
         let mut file = CaseFileWriter::default();
         file.report_write(&case);
+        file.return_write(&both);
         file.bind(&request);
         file.table(&TableCase::Reset);
         let read: Vec<_> = CaseFile::new(file.bytes()).collect();
         let table = Case::Table(TableCase::Reset);
-        assert_eq!(read, [Case::ReportWrite(Box::new(case)), Case::Bind(request), table]);
+        let written =
+            [Case::ReportWrite(Box::new(case)), Case::ReturnWrite(Box::new(both)), Case::Bind(request), table];
+        assert_eq!(read, written);
     }
 }

@@ -2,7 +2,7 @@
 //! wire to where an I/O goes: the other side of a differential test.
 //!
 //! It is written from the scope paper ("01" in the comments), the change
-//! requests ("C-11", "C-12") and RFC 8435, never from the sources under
+//! requests ("C-11" to "C-13") and RFC 8435, never from the sources under
 //! `crates/`. Where both sides print the same line for a case, two readings of
 //! the papers agree.
 //!
@@ -29,10 +29,13 @@ pub mod model_slots;
 pub mod range;
 pub mod refusal;
 pub mod report;
+pub mod report_lines;
 pub mod samples;
 pub mod segments;
 pub mod soundness;
 pub mod state;
+pub mod statistic_records;
+pub mod statistics;
 pub mod store;
 pub mod table;
 pub mod table_cases;

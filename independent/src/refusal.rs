@@ -1,7 +1,8 @@
-//! The refusal numbers of 01.
+//! The refusal numbers of 01 and of the change requests.
 
 /// Why an input is refused; the discriminant is the number in 01's table
-/// "Refusal numbers", and each comment is that table's condition.
+/// "Refusal numbers", and each comment is that table's condition. A number that
+/// a change request adds has the request's.
 #[derive(Clone, Copy, Debug, PartialEq, Eq, Hash, PartialOrd, Ord)]
 #[repr(u8)]
 pub enum Refusal {
@@ -59,10 +60,13 @@ pub enum Refusal {
     /// "an error's operation is not 5, 25 or 38 (COMMIT, READ, WRITE), or its
     /// status is 0"
     BadDeviceError = 27,
+    /// "Nanoseconds are below 1,000,000,000 and seconds are signed and not
+    /// negative (ours), otherwise refusal 28" (C-13)
+    BadTime = 28,
 }
 
 impl Refusal {
-    /// The number that 01 gives for this refusal.
+    /// The number that the papers give for this refusal.
     pub fn number(self) -> u8 {
         self as u8
     }
@@ -73,7 +77,7 @@ mod tests {
     use super::Refusal;
 
     #[test]
-    fn numbers_are_those_of_the_scope_paper() {
+    fn numbers_are_those_of_the_papers() {
         assert_eq!(Refusal::BytesRunOut.number(), 1);
         assert_eq!(Refusal::BytesLeftOver.number(), 2);
         assert_eq!(Refusal::IomodeNotAllowed.number(), 3);
@@ -99,5 +103,6 @@ mod tests {
         assert_eq!(Refusal::NothingToRecall.number(), 25);
         assert_eq!(Refusal::OutputTooShort.number(), 26);
         assert_eq!(Refusal::BadDeviceError.number(), 27);
+        assert_eq!(Refusal::BadTime.number(), 28);
     }
 }

@@ -1,9 +1,10 @@
-//! I/O error reports: the `ff_layoutreturn4` body of RFC 8435 section 9.3,
-//! read and written.
+//! The `ff_layoutreturn4` body of RFC 8435 section 9.3, read and written: I/O
+//! error reports, then I/O statistics.
 
 use crate::range::check_range;
 use crate::refusal::Refusal;
-use crate::xdr::Cursor;
+use crate::statistics::{Statistic, STATISTICS_LIMIT};
+use crate::xdr::{put, Cursor};
 
 /// "Report count (0 to 8)"
 pub const REPORT_LIMIT: u32 = 8;
@@ -33,28 +34,32 @@ pub struct ReportHead {
     pub error_count: u32,
 }
 
-/// The reports of an accepted body; the errors of all of them, in order.
+/// What an accepted body holds: the reports, the errors of all of them in
+/// order, and the statistics.
 #[derive(Clone, Debug, Default, PartialEq, Eq)]
-pub struct Reports {
+pub struct LayoutReturn {
     pub heads: Vec<ReportHead>,
     pub errors: Vec<DeviceError>,
+    pub statistics: Vec<Statistic>,
 }
 
-/// Reads a body: "Report count (0 to 8), reports, then a statistics count that
-/// must be 0 (else 8)... Nothing may follow the body."
-pub fn read_reports(body: &[u8]) -> Result<Reports, Refusal> {
+/// Reads a body: "Report count (0 to 8), reports", then up to 8 statistics
+/// (C-13). "Nothing may follow the body."
+pub fn read_layout_return(body: &[u8]) -> Result<LayoutReturn, Refusal> {
     let mut cursor = Cursor::new(body);
-    let mut reports = Reports::default();
+    let mut layout_return = LayoutReturn::default();
     for _ in 0..cursor.count(0..=REPORT_LIMIT)? {
         let head = read_head(&mut cursor)?;
-        reports.heads.push(head);
+        layout_return.heads.push(head);
         for _ in 0..head.error_count {
-            reports.errors.push(read_error(&mut cursor)?);
+            layout_return.errors.push(read_error(&mut cursor)?);
         }
     }
-    cursor.count(0..=0)?;
+    for _ in 0..cursor.count(0..=STATISTICS_LIMIT)? {
+        layout_return.statistics.push(Statistic::read(&mut cursor)?);
+    }
     cursor.finish()?;
-    Ok(reports)
+    Ok(layout_return)
 }
 
 /// "A report: offset, length (the pair obeys the range rule, judged here),
@@ -88,14 +93,31 @@ fn check_error(error: &DeviceError) -> Result<(), Refusal> {
     }
 }
 
-/// Writes the first `report_count` of the reports to the front of `output` and
-/// answers the body's length: "In writing, too many reports come first (8),
-/// then a list of another length (8), then reports in order, then 26. Bytes of
-/// the output beyond the body stay."
+/// Writes a body without statistics to the front of `output`.
 pub fn write_reports(
     report_count: u32,
     heads: &[ReportHead; REPORT_LIMIT as usize],
     errors: &[DeviceError],
+    output: &mut [u8],
+) -> Result<usize, Refusal> {
+    write_layout_return(report_count, heads, errors, 0, &[], output)
+}
+
+/// Writes the first `report_count` of the reports and the first
+/// `statistics_count` of the statistics to the front of `output` and answers
+/// the body's length: "In writing, too many reports come first (8), then a list
+/// of another length (8)", "too many statistics (8) come right after the list's
+/// length, and the records after the reports, before 26" (C-13). "Bytes of the
+/// output beyond the body stay."
+///
+/// `statistics` has as many records as the count says, or 8 where the count is
+/// higher.
+pub fn write_layout_return(
+    report_count: u32,
+    heads: &[ReportHead; REPORT_LIMIT as usize],
+    errors: &[DeviceError],
+    statistics_count: u32,
+    statistics: &[Statistic],
     output: &mut [u8],
 ) -> Result<usize, Refusal> {
     if report_count > REPORT_LIMIT {
@@ -103,10 +125,18 @@ pub fn write_reports(
     }
     let heads = &heads[..report_count as usize];
     check_list_length(heads, errors)?;
+    if statistics_count > STATISTICS_LIMIT {
+        return Err(Refusal::OutsideLimit);
+    }
+    let statistics = &statistics[..statistics_count as usize];
     check_reports(heads, errors)?;
-    let size = FRAME_SIZE + HEAD_SIZE * heads.len() + ERROR_SIZE * errors.len();
-    let body = output.get_mut(..size).ok_or(Refusal::OutputTooShort)?;
-    encode(heads, errors, body);
+    statistics.iter().try_for_each(Statistic::check)?;
+    let statistics_size: usize = statistics.iter().map(Statistic::size).sum();
+    let size = FRAME_SIZE + HEAD_SIZE * heads.len() + ERROR_SIZE * errors.len() + statistics_size;
+    let mut rest = output.get_mut(..size).ok_or(Refusal::OutputTooShort)?;
+    put_reports(&mut rest, heads, errors);
+    put(&mut rest, &statistics_count.to_be_bytes());
+    statistics.iter().for_each(|statistic| statistic.put(&mut rest));
     Ok(size)
 }
 
@@ -136,41 +166,35 @@ fn check_reports(heads: &[ReportHead], errors: &[DeviceError]) -> Result<(), Ref
     Ok(())
 }
 
-/// Fills `body`, which has the body's exact size.
-fn encode(heads: &[ReportHead], errors: &[DeviceError], body: &mut [u8]) {
-    let mut rest = body;
+/// Writes the report count and the reports to the front of `rest`.
+fn put_reports(rest: &mut &mut [u8], heads: &[ReportHead], errors: &[DeviceError]) {
     let mut unwritten = errors;
-    put(&mut rest, &(heads.len() as u32).to_be_bytes());
+    put(rest, &(heads.len() as u32).to_be_bytes());
     for head in heads {
-        put(&mut rest, &head.offset.to_be_bytes());
-        put(&mut rest, &head.length.to_be_bytes());
-        put(&mut rest, &head.stateid);
-        put(&mut rest, &head.error_count.to_be_bytes());
+        put(rest, &head.offset.to_be_bytes());
+        put(rest, &head.length.to_be_bytes());
+        put(rest, &head.stateid);
+        put(rest, &head.error_count.to_be_bytes());
         let (own, later) = unwritten.split_at(head.error_count as usize);
         for error in own {
-            put(&mut rest, &error.device_id);
-            put(&mut rest, &error.status.to_be_bytes());
-            put(&mut rest, &error.operation.to_be_bytes());
+            put(rest, &error.device_id);
+            put(rest, &error.status.to_be_bytes());
+            put(rest, &error.operation.to_be_bytes());
         }
         unwritten = later;
     }
-    put(&mut rest, &0u32.to_be_bytes());
-}
-
-fn put(rest: &mut &mut [u8], item: &[u8]) {
-    let (front, behind) = std::mem::take(rest).split_at_mut(item.len());
-    front.copy_from_slice(item);
-    *rest = behind;
 }
 
 #[cfg(test)]
 mod tests {
+    mod both_halves;
+
     use super::*;
     use crate::samples::bodies::{encode_reports, good_error, ReportPlan};
-    use crate::samples::wire::{extended, Item};
+    use crate::samples::wire::{extended, Item, Wire};
 
     fn refusal(body: &[u8]) -> Option<u8> {
-        read_reports(body).err().map(Refusal::number)
+        read_layout_return(body).err().map(Refusal::number)
     }
 
     fn head(error_count: u32) -> ReportHead {
@@ -193,7 +217,7 @@ mod tests {
 
     #[test]
     fn worked_example_of_a_body_with_nothing_in_it() {
-        assert_eq!(read_reports(&[0; 8]), Ok(Reports::default()));
+        assert_eq!(read_layout_return(&[0; 8]), Ok(LayoutReturn::default()));
         let mut output = [165; 10];
         assert_eq!(write_reports(0, &heads(&[]), &[], &mut output), Ok(8));
         assert_eq!(output, [0, 0, 0, 0, 0, 0, 0, 0, 165, 165]);
@@ -213,18 +237,19 @@ mod tests {
         let mut output = [0; 68];
         assert_eq!(write_reports(1, &heads(&[head(1)]), &[error], &mut output), Ok(68));
         assert_eq!(output[..], expected);
-        let read = read_reports(&expected).unwrap();
-        assert_eq!(read, Reports { heads: vec![head(1)], errors: vec![error] });
+        let read = read_layout_return(&expected).unwrap();
+        assert_eq!(read, LayoutReturn { heads: vec![head(1)], errors: vec![error], statistics: Vec::new() });
     }
 
     #[test]
-    fn the_largest_body_has_3368_bytes() {
+    fn the_largest_body_without_statistics_has_3368_bytes() {
         let errors: Vec<_> = (0..128).map(|place| good_error(1, place)).collect();
         let mut output = vec![165; 3_369];
         let heads = heads(&[head(16); 8]);
         assert_eq!(write_reports(8, &heads, &errors, &mut output), Ok(3_368));
         assert_eq!(output[3_368], 165);
-        assert_eq!(read_reports(&output[..3_368]), Ok(Reports { heads: heads.to_vec(), errors }));
+        let expected = LayoutReturn { heads: heads.to_vec(), errors, statistics: Vec::new() };
+        assert_eq!(read_layout_return(&output[..3_368]), Ok(expected));
         // The length is no test of its own.
         assert_eq!(refusal(&output), Some(2));
     }
@@ -241,7 +266,7 @@ mod tests {
         for operation in [0, 4, 6, 24, 26, 37, 39, 10_044] {
             assert_eq!(refusal(&wire.with_uint(Item::Operation, 0, operation)), Some(27));
         }
-        assert_eq!(refusal(&wire.with_uint(Item::StatisticsCount, 0, 1)), Some(8));
+        assert_eq!(refusal(&wire.with_uint(Item::StatisticsCount, 0, 9)), Some(8));
         assert_eq!(refusal(&extended(&wire.bytes, &[0])), Some(2));
         for length in 0..wire.bytes.len() {
             assert_eq!(refusal(&wire.bytes[..length]), Some(1), "cut to {length}");

@@ -74,6 +74,12 @@ impl<'a> Cursor<'a> {
         Ok(u64::from_be_bytes(self.fixed()?))
     }
 
+    /// A signed number of 8 bytes, in two's complement.
+    #[inline]
+    pub fn hyper(&mut self) -> Result<i64, Refusal> {
+        Ok(i64::from_be_bytes(self.fixed()?))
+    }
+
     /// "A boolean is 4 bytes, 0 or 1."
     pub fn boolean(&mut self) -> Result<bool, Refusal> {
         match self.uint()? {
@@ -106,6 +112,11 @@ impl<'a> Cursor<'a> {
         Ok(Extent { start, length })
     }
 
+    /// The content bytes of variable opaque data.
+    pub fn opaque_content(&mut self, limit: RangeInclusive<u32>) -> Result<&'a [u8], Refusal> {
+        Ok(self.opaque(limit)?.of(self.bytes))
+    }
+
     /// The end of a body, where nothing may follow.
     pub fn finish(self) -> Result<(), Refusal> {
         if self.at == self.bytes.len() {
@@ -126,6 +137,14 @@ pub fn require_zero_padding(padding: &[u8]) -> Result<(), Refusal> {
     }
 }
 
+/// Writes an item to the front of `rest` and moves on behind it.
+#[inline]
+pub fn put(rest: &mut &mut [u8], item: &[u8]) {
+    let (front, behind) = std::mem::take(rest).split_at_mut(item.len());
+    front.copy_from_slice(item);
+    *rest = behind;
+}
+
 #[cfg(test)]
 mod tests {
     use super::*;
@@ -139,9 +158,17 @@ mod tests {
     }
 
     #[test]
+    fn signed_numbers_are_in_twos_complement() {
+        assert_eq!(Cursor::new(&[127, 255, 255, 255, 255, 255, 255, 255]).hyper(), Ok(i64::MAX));
+        assert_eq!(Cursor::new(&[128, 0, 0, 0, 0, 0, 0, 0]).hyper(), Ok(i64::MIN));
+        assert_eq!(Cursor::new(&[255; 8]).hyper(), Ok(-1));
+    }
+
+    #[test]
     fn a_cut_number_runs_out() {
         assert_eq!(Cursor::new(&[0; 3]).uint(), Err(Refusal::BytesRunOut));
         assert_eq!(Cursor::new(&[0; 7]).uhyper(), Err(Refusal::BytesRunOut));
+        assert_eq!(Cursor::new(&[0; 7]).hyper(), Err(Refusal::BytesRunOut));
         assert_eq!(Cursor::new(&[0; 15]).fixed::<16>(), Err(Refusal::BytesRunOut));
     }
 

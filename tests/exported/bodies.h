@@ -23,6 +23,14 @@ static inline void put_copies(struct bytes *b, uint8_t byte, size_t count)
     b->length += count;
 }
 
+/* Opaque data that is one byte, so many times. */
+static inline void put_opaque_copies(struct bytes *b, uint8_t byte, uint32_t count)
+{
+    put(b, count, 4);
+    put_copies(b, byte, count);
+    put_copies(b, 0, (4 - count % 4) % 4);
+}
+
 static inline void put_opaque(struct bytes *b, const char *text)
 {
     size_t length = strlen(text);
@@ -54,11 +62,8 @@ static inline void put_server(struct bytes *b, const struct layout_plan *p, uint
     put(b, efficiency, 4);
     put_copies(b, p->stateid, 16);
     put(b, p->handles, 4);
-    for (uint32_t i = 0; i < p->handles; i++) {
-        put(b, p->handle_length, 4);
-        put_copies(b, (uint8_t)('a' + i), p->handle_length);
-        put_copies(b, 0, (4 - p->handle_length % 4) % 4);
-    }
+    for (uint32_t i = 0; i < p->handles; i++)
+        put_opaque_copies(b, (uint8_t)('a' + i), p->handle_length);
     put_opaque(b, p->user);
     put_opaque(b, p->group);
 }
@@ -121,23 +126,80 @@ static inline struct bytes device_body(uint32_t addresses, const char *netid, co
 
 /* Reports of the bytes 1 to 2 with a stateid of threes. Error number n of the body is of the device whose id is 16
  * times n, with the status n + 1, in a WRITE. */
+static inline void put_reports(struct bytes *b, uint32_t reports, uint32_t errors)
+{
+    put(b, reports, 4);
+    for (uint32_t i = 0; i < reports; i++) {
+        put(b, 1, 8);
+        put(b, 2, 8);
+        put_copies(b, 3, 16);
+        put(b, errors, 4);
+        for (uint32_t k = 0; k < errors; k++) {
+            put_copies(b, (uint8_t)(i * errors + k), 16);
+            put(b, i * errors + k + 1, 4);
+            put(b, 38, 4);
+        }
+    }
+}
+
+/* A body without statistics. */
 static inline struct bytes report_body(uint32_t reports, uint32_t errors)
 {
     struct bytes b = {.length = 0};
 
-    put(&b, reports, 4);
-    for (uint32_t i = 0; i < reports; i++) {
-        put(&b, 1, 8);
-        put(&b, 2, 8);
-        put_copies(&b, 3, 16);
-        put(&b, errors, 4);
-        for (uint32_t k = 0; k < errors; k++) {
-            put_copies(&b, (uint8_t)(i * errors + k), 16);
-            put(&b, i * errors + k + 1, 4);
-            put(&b, 38, 4);
-        }
-    }
+    put_reports(&b, reports, errors);
     put(&b, 0, 4);
+    return b;
+}
+
+/* The lengths of netid, address and filehandle: the shortest make a record of 248 bytes, the longest one of 436. */
+struct lengths {
+    uint32_t netid, address, filehandle;
+};
+
+static const struct lengths shortest = {1, 1, 1}, longest = {8, 64, 128};
+
+static inline void put_latency(struct bytes *b, uint64_t first)
+{
+    for (uint64_t i = 0; i < 5; i++)
+        put(b, first + i, 8);
+    for (uint64_t i = 5; i < 9; i += 2) {
+        put(b, first + i, 8);
+        put(b, first + i + 1, 4);
+    }
+}
+
+/* A record of statistics. Its numbers count up from 100 times its own; its runs of bytes are 16 times its own and so
+ * on, and of odd records local is 1. */
+static inline void put_statistic(struct bytes *b, uint8_t number, struct lengths l)
+{
+    uint64_t first = UINT64_C(100) * number;
+
+    put(b, first + 1, 8);
+    put(b, first + 2, 8);
+    put_copies(b, (uint8_t)(16 * number), 16);
+    for (uint64_t i = 3; i < 7; i++)
+        put(b, first + i, 8);
+    put_copies(b, (uint8_t)(16 * number + 1), 16);
+    put_opaque_copies(b, (uint8_t)(16 * number + 2), l.netid);
+    put_opaque_copies(b, (uint8_t)(16 * number + 3), l.address);
+    put_opaque_copies(b, (uint8_t)(16 * number + 4), l.filehandle);
+    put_latency(b, first + 7);
+    put_latency(b, first + 16);
+    put(b, first + 25, 8);
+    put(b, first + 26, 4);
+    put(b, number % 2, 4);
+}
+
+/* Reports as above, and records of the numbers 0, 1 and so on. */
+static inline struct bytes return_body(uint32_t reports, uint32_t errors, uint32_t statistics, struct lengths l)
+{
+    struct bytes b = {.length = 0};
+
+    put_reports(&b, reports, errors);
+    put(&b, statistics, 4);
+    for (uint32_t i = 0; i < statistics; i++)
+        put_statistic(&b, (uint8_t)i, l);
     return b;
 }
 

@@ -67,6 +67,11 @@ static inline struct basilothyn_error_result read_error(struct bytes b, size_t a
     return CALL(basilothyn_read_error)(b.at, b.length, at);
 }
 
+static inline struct basilothyn_statistics_result read_statistics(struct bytes b)
+{
+    return CALL(basilothyn_read_statistics)(b.at, b.length);
+}
+
 /* Binds the data server of a mirror and a stripe to a device that was fetched under an id of 16 times one byte. */
 static inline struct basilothyn_bind_result bind_server(struct layout_plan p, uint32_t mirror, uint32_t stripe,
                                                  struct bytes device, uint8_t id, uint32_t supported)
@@ -93,6 +98,69 @@ static inline struct bytes of_length(struct bytes b, size_t length)
 {
     b.length = length;
     return b;
+}
+
+/* ---- what bodies.h puts into a body, as records */
+
+static inline struct basilothyn_error error_of(uint8_t device, uint32_t status, uint32_t operation)
+{
+    struct basilothyn_error e = {.status = status, .operation = operation};
+
+    memset(e.device, device, sizeof e.device);
+    return e;
+}
+
+static inline struct basilothyn_latency latency_of(uint64_t first)
+{
+    return (struct basilothyn_latency){first, first + 1, first + 2, first + 3, first + 4,
+                                       {first + 5, (uint32_t)first + 6}, {first + 7, (uint32_t)first + 8}};
+}
+
+/* Spare bytes are those that are asked for. A length may be above the longest. */
+static inline struct basilothyn_statistic statistic_of(uint8_t number, struct lengths l, uint8_t spare)
+{
+    uint64_t first = UINT64_C(100) * number;
+    struct basilothyn_statistic s = {.offset = first + 1, .length = first + 2, .read = {first + 3, first + 4},
+                                     .write = {first + 5, first + 6}};
+    struct basilothyn_layout_update *u = &s.update;
+
+    memset(s.stateid, 16 * number, sizeof s.stateid);
+    memset(s.device, 16 * number + 1, sizeof s.device);
+    u->address.netid.length = l.netid;
+    u->address.text.length = l.address;
+    u->filehandle.length = l.filehandle;
+    for (uint32_t i = 0; i < sizeof u->address.netid.bytes; i++)
+        u->address.netid.bytes[i] = i < l.netid ? (uint8_t)(16 * number + 2) : spare;
+    for (uint32_t i = 0; i < sizeof u->address.text.bytes; i++)
+        u->address.text.bytes[i] = i < l.address ? (uint8_t)(16 * number + 3) : spare;
+    for (uint32_t i = 0; i < sizeof u->filehandle.bytes; i++)
+        u->filehandle.bytes[i] = i < l.filehandle ? (uint8_t)(16 * number + 4) : spare;
+    u->read = latency_of(first + 7);
+    u->write = latency_of(first + 16);
+    u->duration = (struct basilothyn_time){first + 25, (uint32_t)first + 26};
+    u->local = number % 2;
+    return s;
+}
+
+/* What makes return_body, and its list of errors, which has room for 128. Entries from a count on are full of 165. */
+static inline struct basilothyn_outgoing outgoing_of(uint32_t reports, uint32_t errors, uint32_t statistics,
+                                                     struct lengths l, struct basilothyn_error *list)
+{
+    struct basilothyn_outgoing o;
+    uint32_t count = 0;
+
+    memset(&o, 165, sizeof o);
+    o.count = reports;
+    o.statistic_count = statistics;
+    for (uint32_t i = 0; i < reports && i < BASILOTHYN_REPORTS; i++) {
+        o.heads[i] = (struct basilothyn_report_head){.offset = 1, .length = 2, .errors = errors};
+        memset(o.heads[i].stateid, 3, sizeof o.heads[i].stateid);
+        for (uint32_t k = 0; k < errors; k++, count++)
+            list[count] = error_of((uint8_t)count, count + 1, 38);
+    }
+    for (uint32_t i = 0; i < statistics && i < BASILOTHYN_STATISTICS; i++)
+        o.statistics[i] = statistic_of((uint8_t)i, l, 165);
+    return o;
 }
 
 /* ---- a file: its table and its store */

@@ -300,7 +300,8 @@ static void test_texts(void)
         "accepted", "run out", "left over", "iomode", "layout type", "range", "padding byte", "boolean",
         "count or length", "server count differs", "unit", "flag bit", "version entry", "differ in binding",
         "no version", "stateid is not zero", "beyond the layout", "right", "no refusal", "no refusal", "unsound",
-        "under another body", "recalled", "32 segments", "slot", "held", "output is too short", "operation"};
+        "under another body", "recalled", "32 segments", "slot", "held", "output is too short", "operation",
+        "nanoseconds"};
 
     for (uint32_t number = 0; number < ENTRIES(words); number++) {
         const char *text = CALL(basilothyn_refusal_text)(number);
@@ -308,7 +309,7 @@ static void test_texts(void)
         CHECK(strstr(text, words[number]) != NULL);
         printf("refusal %u %s\n", (unsigned)number, text);
     }
-    CHECK(strstr(basilothyn_refusal_text(28), "no refusal") != NULL);
+    CHECK(strstr(basilothyn_refusal_text(29), "no refusal") != NULL);
     CHECK(strstr(basilothyn_refusal_text(UINT32_MAX), "no refusal") != NULL);
 }
 
@@ -318,6 +319,7 @@ static void test_null_runs(void)
 {
     struct basilothyn_table t = basilothyn_empty_table();
     struct basilothyn_report_heads heads = {.heads = {{.offset = 0}}};
+    struct basilothyn_outgoing nothing = {.count = 0};
     struct bytes layout = layout_body(smallest);
     struct file f = new_file();
     uint8_t out[8] = {1, 1, 1, 1, 1, 1, 1, 1};
@@ -335,6 +337,11 @@ static void test_null_runs(void)
     CHECK(basilothyn_bind(layout.at, layout.length, 0, 0, NULL, 0, layout.at + 16, 15).refusal == 1);
     CHECK(basilothyn_write_report(0, heads, NULL, 0, NULL, 0).refusal == 26);
     CHECK(basilothyn_write_report(0, heads, NULL, 0, out, sizeof out).length == 8);
+    CHECK(memcmp(out, (const uint8_t[8]){0}, 8) == 0);
+    out[3] = out[7] = 1;
+    CHECK(basilothyn_read_statistics(NULL, 0).refusal == 1);
+    CHECK(basilothyn_write_return(nothing, NULL, 0, NULL, 0).refusal == 26);
+    CHECK(basilothyn_write_return(nothing, NULL, 0, out, sizeof out).length == 8);
     CHECK(memcmp(out, (const uint8_t[8]){0}, 8) == 0);
 }
 

@@ -1,7 +1,8 @@
 /*
  * Holds include/basilothyn.h to the core: every refusal, iomode and netid class against what the core answers and what
  * the scope paper says, and a call of every function with answers that the paper gives. Prints 'tested NAME' for each
- * of them and ends with 'N checks'; tests/exported/run compares the names with the header's. constants.c has the others.
+ * of them and ends with 'N checks'; tests/exported/run compares the names with the header's. constants.c and
+ * statistics.c have the others.
  */
 #include "calls.h"
 
@@ -487,14 +488,6 @@ static void test_mirrors_by_stripe(void)
 
 /* ---- error reports */
 
-static struct basilothyn_error error_of(uint8_t device, uint32_t status, uint32_t operation)
-{
-    struct basilothyn_error e = {.status = status, .operation = operation};
-
-    memset(e.device, device, sizeof e.device);
-    return e;
-}
-
 /* As many reports as report_body makes, of as many errors each. */
 static struct basilothyn_write_result write_reports(uint32_t reports, uint32_t errors, uint8_t *out, size_t length)
 {
@@ -563,7 +556,8 @@ static void test_read_reports(void)
     }
     CONSTANT(BASILOTHYN_OUTSIDE_LIMIT, 8, read_reports(report_body(9, 1)).refusal);
     CONSTANT(BASILOTHYN_OUTSIDE_LIMIT, 8, read_reports(report_body(1, 17)).refusal);
-    CONSTANT(BASILOTHYN_OUTSIDE_LIMIT, 8, read_reports(with(report_body(1, 1), 64, 1, 4)).refusal);
+    CONSTANT(BASILOTHYN_OUTSIDE_LIMIT, 8, read_reports(with(report_body(1, 1), 64, 9, 4)).refusal);
+    CONSTANT(BASILOTHYN_BYTES_RUN_OUT, 1, read_reports(with(report_body(1, 1), 64, 8, 4)).refusal);
     CONSTANT(BASILOTHYN_BYTES_LEFT_OVER, 2, read_reports(of_length(body, 3369)).refusal);
     CONSTANT(BASILOTHYN_RANGE_INVALID, 5, read_reports(with(body, 12, 0, 8)).refusal);
     CHECK(read_reports(with(body, 12, 0, 8)).count == 0);

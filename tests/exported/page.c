@@ -120,11 +120,37 @@ static void test_reports(void)
     print_errors(out, 67);
 }
 
+/* Two writes of 1.5 seconds together, the second of them not whole. */
+static void test_statistics(void)
+{
+    struct basilothyn_statistic s = {.length = UINT64_MAX, .update = {.address = {{3, "tcp"}, {13, "192.0.2.1.8.1"}}}};
+    struct basilothyn_statistics_result r;
+    uint8_t out[BASILOTHYN_LONGEST_RETURN];
+
+    count_write(&s, 4096, 4096, 600000000);
+    count_write(&s, 4096, 1000, 900000000);
+    CHECK(return_statistics(&s, out) == 0);
+    s.update.filehandle.length = 20;
+    /* Both counts, and 80 + 8 + 20 + 24 + 144 bytes of the record. */
+    CHECK(return_statistics(&s, out) == 284);
+    r = basilothyn_read_statistics(out, 284);
+    CHECK(r.refusal == 0 && r.count == 1 && r.statistics[0].write.count == 2 && r.statistics[0].write.bytes == 5096);
+    s = r.statistics[0];
+    CHECK(s.update.write.ops_requested == 2 && s.update.write.bytes_requested == 8192);
+    CHECK(s.update.write.ops_completed == 2 && s.update.write.bytes_completed == 5096);
+    CHECK(s.update.write.bytes_not_delivered == 3096 && s.update.write.busy.nanoseconds == 0);
+    CHECK(s.update.write.completion.seconds == 1 && s.update.write.completion.nanoseconds == 500000000);
+    CHECK(s.update.read.ops_requested == 0 && s.read.count == 0);
+    print_statistics(out, 284);
+    print_statistics(out, 283);
+}
+
 int main(void)
 {
     test_tables();
     test_servers();
     test_reports();
+    test_statistics();
     if (faults > 0)
         printf("%u of %u checks failed\n", faults, checks);
     else

@@ -7,6 +7,62 @@
 #define RECORD(name) printf("\n" #name " %zu", sizeof(struct basilothyn_##name))
 #define FIELD(name, field) printf(" " #field "@%zu", offsetof(struct basilothyn_##name, field))
 
+static void parts_of_statistics(void) {
+    RECORD(time);
+    FIELD(time, seconds);
+    FIELD(time, nanoseconds);
+    RECORD(io_info);
+    FIELD(io_info, count);
+    FIELD(io_info, bytes);
+    RECORD(latency);
+    FIELD(latency, ops_requested);
+    FIELD(latency, bytes_requested);
+    FIELD(latency, ops_completed);
+    FIELD(latency, bytes_completed);
+    FIELD(latency, bytes_not_delivered);
+    FIELD(latency, busy);
+    FIELD(latency, completion);
+    RECORD(netid);
+    FIELD(netid, length);
+    FIELD(netid, bytes);
+    RECORD(address_text);
+    FIELD(address_text, length);
+    FIELD(address_text, bytes);
+    RECORD(filehandle);
+    FIELD(filehandle, length);
+    FIELD(filehandle, bytes);
+}
+
+static void records_of_statistics(void) {
+    RECORD(netaddr);
+    FIELD(netaddr, netid);
+    FIELD(netaddr, text);
+    RECORD(layout_update);
+    FIELD(layout_update, address);
+    FIELD(layout_update, filehandle);
+    FIELD(layout_update, read);
+    FIELD(layout_update, write);
+    FIELD(layout_update, duration);
+    FIELD(layout_update, local);
+    RECORD(statistic);
+    FIELD(statistic, offset);
+    FIELD(statistic, length);
+    FIELD(statistic, stateid);
+    FIELD(statistic, read);
+    FIELD(statistic, write);
+    FIELD(statistic, device);
+    FIELD(statistic, update);
+    RECORD(statistics_result);
+    FIELD(statistics_result, refusal);
+    FIELD(statistics_result, count);
+    FIELD(statistics_result, statistics);
+    RECORD(outgoing);
+    FIELD(outgoing, count);
+    FIELD(outgoing, heads);
+    FIELD(outgoing, statistic_count);
+    FIELD(outgoing, statistics);
+}
+
 int main(void) {
     RECORD(segment);
     FIELD(segment, first);
@@ -98,6 +154,8 @@ int main(void) {
     RECORD(write_result);
     FIELD(write_result, refusal);
     FIELD(write_result, length);
+    parts_of_statistics();
+    records_of_statistics();
     printf("\n");
     return 0;
 }

@@ -12,10 +12,11 @@ enum { PAINTED = 1 << 20, PAINT = 165 };
 
 /* What the calls take and give stands outside of the stack. */
 static struct file f, in_both;
-static struct bytes granted, layout, device, reports;
+static struct bytes granted, layout, device, reports, returned;
 static struct basilothyn_report_heads heads;
 static struct basilothyn_error errors[128];
-static uint8_t out[BASILOTHYN_LONGEST_REPORT];
+static struct basilothyn_outgoing outgoing;
+static uint8_t out[BASILOTHYN_LONGEST_RETURN];
 static struct basilothyn_event_result event;
 static struct basilothyn_locate_result located;
 static struct basilothyn_layout_result layout_read;
@@ -24,6 +25,7 @@ static struct basilothyn_device_result device_read;
 static struct basilothyn_bind_result bound;
 static struct basilothyn_reports_result reports_read;
 static struct basilothyn_error_result error_read;
+static struct basilothyn_statistics_result statistics_read;
 static struct basilothyn_write_result written;
 
 static void call_nothing(void) {}
@@ -52,6 +54,12 @@ static void call_bind(void)
 static void call_read_reports(void) { reports_read = basilothyn_read_reports(reports.at, reports.length); }
 static void call_read_error(void) { error_read = basilothyn_read_error(reports.at, reports.length, 40); }
 static void call_write_report(void) { written = basilothyn_write_report(8, heads, errors, 128, out, sizeof out); }
+static void call_read_reports_of_both(void) { reports_read = basilothyn_read_reports(returned.at, returned.length); }
+static void call_read_statistics(void)
+{
+    statistics_read = basilothyn_read_statistics(returned.at, returned.length);
+}
+static void call_write_return(void) { written = basilothyn_write_return(outgoing, errors, 128, out, sizeof out); }
 
 static const struct {
     const char *name;
@@ -74,6 +82,9 @@ static const struct {
     {"basilothyn_read_reports", call_read_reports, &reports_read.refusal},
     {"basilothyn_read_error", call_read_error, &error_read.refusal},
     {"basilothyn_write_report", call_write_report, &written.refusal},
+    {"basilothyn_read_reports", call_read_reports_of_both, &reports_read.refusal},
+    {"basilothyn_read_statistics", call_read_statistics, &statistics_read.refusal},
+    {"basilothyn_write_return", call_write_return, &written.refusal},
 };
 
 static uint8_t *stack, *volatile entered;
@@ -123,10 +134,9 @@ static void prepare(void)
     CHECK(grant(&in_both, 0, WHOLE, 1, p) == 0);
     device = device_body(8, "tcp", "192.0.2.1.8.1", 1, &v);
     reports = report_body(8, 16);
-    for (uint32_t i = 0; i < BASILOTHYN_REPORTS; i++)
-        heads.heads[i] = (struct basilothyn_report_head){.offset = 1, .length = 2, .errors = 16};
-    for (uint32_t i = 0; i < ENTRIES(errors); i++)
-        errors[i] = (struct basilothyn_error){.status = 5, .operation = BASILOTHYN_OP_READ};
+    returned = return_body(8, 16, 8, longest);
+    outgoing = outgoing_of(8, 16, 8, longest, errors);
+    memcpy(heads.heads, outgoing.heads, sizeof heads.heads);
 }
 
 int main(void)

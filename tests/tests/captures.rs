@@ -8,7 +8,8 @@ use independent::device::{read_device_body, NetidClass};
 use independent::layout::{read_server_at, Server};
 use independent::layout4::{read_layout4, BODY_IN_LAYOUT4};
 use independent::refusal::Refusal;
-use independent::report::read_reports;
+use independent::report::{read_layout_return, write_layout_return};
+use independent::statistics::{IoInfo, Latency, Statistic, Time};
 use std::fs;
 use support::json::{parse, Json};
 
@@ -142,21 +143,87 @@ fn expected_class(netid: &str) -> NetidClass {
     }
 }
 
-/// "Every `lr` body has statistics, so the base answers 8".
 #[test]
-fn layout_returns_are_refused_for_their_statistics() {
+fn layout_returns_have_the_dissectors_values() {
+    let mut records = 0;
     for (entry, body) in entries_of("layoutreturn") {
         let values = entry.get("tshark");
-        assert_eq!(read_reports(&body), Err(Refusal::OutsideLimit));
-        // No recording has an error report: the statistics count follows the
-        // report count, and without statistics the body would be accepted.
+        let read = read_layout_return(&body).expect("an accepted body");
+        // No recording has an error report.
         assert_eq!(values.get("ioerr_count").number(), 0);
         assert!(values.get("ioerr").list().is_empty());
-        let statistics_count = u32::from_be_bytes(body[4..8].try_into().unwrap());
-        assert_eq!(u64::from(statistics_count), values.get("iostats_count").number());
-        let without = [&body[..4], &[0; 4]].concat();
-        assert_eq!(read_reports(&without).expect("no reports").heads, []);
-        let longer = [&without[..], &body[8..]].concat();
-        assert_eq!(read_reports(&longer), Err(Refusal::BytesLeftOver));
+        assert_eq!(read.heads, []);
+        assert_eq!(read.errors, []);
+        let expected = values.get("iostats").list();
+        assert_eq!(values.get("iostats_count").number(), expected.len() as u64);
+        assert_eq!(read.statistics.len(), expected.len());
+        for (statistic, expected) in read.statistics.iter().zip(expected) {
+            check_statistic(statistic, expected);
+        }
+        records += expected.len();
+    }
+    assert_eq!(records, 19);
+}
+
+fn check_statistic(statistic: &Statistic, expected: &Json) {
+    assert_eq!(statistic.offset, expected.get("offset").number());
+    assert_eq!(statistic.length, expected.get("length").number());
+    assert_eq!(statistic.stateid[..], stateid_bytes(expected.get("stateid")));
+    check_io_info(&statistic.read, expected.get("read"));
+    check_io_info(&statistic.write, expected.get("write"));
+    assert_eq!(statistic.device_id[..], from_hex(expected.get("deviceid").text()));
+    let update = expected.get("layoutupdate");
+    assert_eq!(statistic.netid.content(), update.get("netid").text().as_bytes());
+    assert_eq!(statistic.address.content(), update.get("uaddr").text().as_bytes());
+    assert_eq!(statistic.filehandle.content(), from_hex(update.get("fh").text()));
+    check_latency(&statistic.read_latency, update.get("read"));
+    check_latency(&statistic.write_latency, update.get("write"));
+    check_time(&statistic.duration, update.get("duration"));
+    assert_eq!(u64::from(statistic.local), update.get("local").number());
+}
+
+fn check_io_info(io_info: &IoInfo, expected: &Json) {
+    assert_eq!(io_info.count, expected.get("count").number());
+    assert_eq!(io_info.bytes, expected.get("bytes").number());
+}
+
+fn check_latency(latency: &Latency, expected: &Json) {
+    assert_eq!(latency.ops_requested, expected.get("ops_requested").number());
+    assert_eq!(latency.bytes_requested, expected.get("bytes_requested").number());
+    assert_eq!(latency.ops_completed, expected.get("ops_completed").number());
+    assert_eq!(latency.bytes_completed, expected.get("bytes_completed").number());
+    assert_eq!(latency.bytes_not_delivered, expected.get("bytes_not_delivered").number());
+    check_time(&latency.total_busy_time, expected.get("total_busy_time"));
+    check_time(&latency.aggregate_completion_time, expected.get("aggregate_completion_time"));
+}
+
+/// Seconds, which are not negative, and nanoseconds.
+fn check_time(time: &Time, expected: &Json) {
+    let parts: Vec<u64> = expected.list().iter().map(Json::number).collect();
+    assert_eq!([time.seconds as u64, u64::from(time.nanoseconds)], parts[..]);
+}
+
+/// "writing what was read gives the same bytes" (C-13)
+#[test]
+fn layout_returns_are_written_again() {
+    for (_, body) in entries_of("layoutreturn") {
+        let read = read_layout_return(&body).expect("an accepted body");
+        let mut output = vec![165; body.len() + 1];
+        let count = read.statistics.len() as u32;
+        let written = write_layout_return(0, &Default::default(), &[], count, &read.statistics, &mut output);
+        assert_eq!(written, Ok(body.len()));
+        assert_eq!(output[..body.len()], body);
+        assert_eq!(output[body.len()], 165);
+    }
+}
+
+/// Each captured body with a byte more, and with each byte fewer.
+#[test]
+fn layout_returns_end_where_they_end() {
+    for (_, body) in entries_of("layoutreturn") {
+        assert_eq!(read_layout_return(&[&body[..], &[0]].concat()), Err(Refusal::BytesLeftOver));
+        for length in 0..body.len() {
+            assert_eq!(read_layout_return(&body[..length]), Err(Refusal::BytesRunOut), "cut to {length}");
+        }
     }
 }

@@ -1,6 +1,6 @@
 //! The proved pNFS client core, with safe types: one [`Layouts`] for each file says where an I/O goes, [`Layout`] and
-//! [`Device`] read what came in NFS messages, [`Layout::bind`] joins the two, and [`Report`]s are read and written.
-//! [`raw`] has the exported functions as they are.
+//! [`Device`] read what came in NFS messages, [`Layout::bind`] joins the two, and [`Report`]s and [`Statistic`]s are
+//! read and written. [`raw`] has the exported functions as they are.
 
 mod binding;
 mod device;
@@ -10,6 +10,7 @@ mod numbers;
 pub mod raw;
 mod refusal;
 mod report;
+mod statistics;
 
 pub use binding::{Binding, Identity};
 pub use device::{Address, Device, DeviceId, Netid, Version, Versions};
@@ -18,3 +19,4 @@ pub use layouts::{Layouts, Piece};
 pub use numbers::{Iomode, MirrorNumber, MirrorSet, SlotNumber, StripeNumber};
 pub use refusal::Refusal;
 pub use report::{read_error, read_reports, write_reports, IoError, Operation, Report, LONGEST_REPORT};
+pub use statistics::{write_return, IoInfo, Latency, LayoutUpdate, Statistic, Statistics, LONGEST_RETURN};

@@ -15,6 +15,12 @@ pub const MIRRORS: usize = 8;
 /// The most data servers of a mirror.
 pub const SERVERS: usize = 16;
 
+/// The most error reports of a layout return.
+pub const REPORTS: usize = 8;
+
+/// The most records of statistics of a layout return.
+pub const STATISTICS: usize = 8;
+
 /// Kind 0 is none, 1 granted, 2 recalled; with none the slot is 0.
 #[repr(C)]
 #[derive(Clone, Copy, Debug, Default, PartialEq, Eq)]
@@ -146,8 +152,8 @@ pub struct ReportHead {
 pub struct ReportsResult {
     pub refusal: u32,
     pub count: u32,
-    pub heads: [ReportHead; 8],
-    pub errors_at: [usize; 8],
+    pub heads: [ReportHead; REPORTS],
+    pub errors_at: [usize; REPORTS],
 }
 
 /// `device` is the offset of the device id's 16 bytes.
@@ -163,7 +169,7 @@ pub struct ErrorResult {
 #[repr(C)]
 #[derive(Clone, Copy, Debug, Default, PartialEq, Eq)]
 pub struct ReportHeads {
-    pub heads: [ReportHead; 8],
+    pub heads: [ReportHead; REPORTS],
 }
 
 #[repr(C)]
@@ -179,6 +185,118 @@ pub struct ErrorRecord {
 pub struct WriteResult {
     pub refusal: u32,
     pub length: u64,
+}
+
+/// Seconds are signed on the wire: 2^63 and more are negative.
+#[repr(C)]
+#[derive(Clone, Copy, Debug, Default, PartialEq, Eq)]
+pub struct TimeRecord {
+    pub seconds: u64,
+    pub nanoseconds: u32,
+}
+
+#[repr(C)]
+#[derive(Clone, Copy, Debug, Default, PartialEq, Eq)]
+pub struct IoInfoRecord {
+    pub count: u64,
+    pub bytes: u64,
+}
+
+#[repr(C)]
+#[derive(Clone, Copy, Debug, Default, PartialEq, Eq)]
+pub struct LatencyRecord {
+    pub ops_requested: u64,
+    pub bytes_requested: u64,
+    pub ops_completed: u64,
+    pub bytes_completed: u64,
+    pub bytes_not_delivered: u64,
+    pub busy: TimeRecord,
+    pub completion: TimeRecord,
+}
+
+/// The first `length` bytes count, the others are spare: 0 after reading, and ignored in writing.
+#[repr(C)]
+#[derive(Clone, Copy, Debug, PartialEq, Eq)]
+pub struct OpaqueRecord<const LONGEST: usize> {
+    pub length: u32,
+    pub bytes: [u8; LONGEST],
+}
+
+impl<const LONGEST: usize> Default for OpaqueRecord<LONGEST> {
+    fn default() -> Self {
+        OpaqueRecord { length: 0, bytes: [0; LONGEST] }
+    }
+}
+
+impl<const LONGEST: usize> OpaqueRecord<LONGEST> {
+    /// Of a content that is too long the bytes are cut and the length is not, so that the core refuses it.
+    pub fn of(content: &[u8]) -> Self {
+        let mut record = OpaqueRecord { length: count(content.len()), ..Self::default() };
+        record.bytes.iter_mut().zip(content).for_each(|(place, byte)| *place = *byte);
+        record
+    }
+
+    /// The bytes that count; all that are there where the length says more.
+    pub fn content(&self) -> &[u8] {
+        &self.bytes[..LONGEST.min(self.length as usize)]
+    }
+}
+
+/// A count that does not fit is above every limit all the same.
+pub(crate) fn count(length: usize) -> u32 {
+    length.try_into().unwrap_or(u32::MAX)
+}
+
+pub type NetidRecord = OpaqueRecord<8>;
+pub type AddressTextRecord = OpaqueRecord<64>;
+pub type FilehandleRecord = OpaqueRecord<128>;
+
+#[repr(C)]
+#[derive(Clone, Copy, Debug, Default, PartialEq, Eq)]
+pub struct NetaddrRecord {
+    pub netid: NetidRecord,
+    pub text: AddressTextRecord,
+}
+
+#[repr(C)]
+#[derive(Clone, Copy, Debug, Default, PartialEq, Eq)]
+pub struct LayoutUpdateRecord {
+    pub address: NetaddrRecord,
+    pub filehandle: FilehandleRecord,
+    pub read: LatencyRecord,
+    pub write: LatencyRecord,
+    pub duration: TimeRecord,
+    pub local: u32,
+}
+
+#[repr(C)]
+#[derive(Clone, Copy, Debug, Default, PartialEq, Eq)]
+pub struct StatisticRecord {
+    pub offset: u64,
+    pub length: u64,
+    pub stateid: [u8; 16],
+    pub read: IoInfoRecord,
+    pub write: IoInfoRecord,
+    pub device: [u8; 16],
+    pub update: LayoutUpdateRecord,
+}
+
+#[repr(C)]
+#[derive(Clone, Copy, Debug, Default, PartialEq, Eq)]
+pub struct StatisticsResult {
+    pub refusal: u32,
+    pub count: u32,
+    pub statistics: [StatisticRecord; STATISTICS],
+}
+
+/// Entries from a count on are not looked at.
+#[repr(C)]
+#[derive(Clone, Copy, Debug, Default, PartialEq, Eq)]
+pub struct Outgoing {
+    pub count: u32,
+    pub heads: [ReportHead; REPORTS],
+    pub statistic_count: u32,
+    pub statistics: [StatisticRecord; STATISTICS],
 }
 
 mod exported {
@@ -242,6 +360,14 @@ mod exported {
         pub fn basilothyn_write_report(
             count: u32,
             heads: ReportHeads,
+            errors: *const ErrorRecord,
+            error_count: usize,
+            out: *mut u8,
+            out_length: usize,
+        ) -> WriteResult;
+        pub fn basilothyn_read_statistics(body: *const u8, length: usize) -> StatisticsResult;
+        pub fn basilothyn_write_return(
+            outgoing: Outgoing,
             errors: *const ErrorRecord,
             error_count: usize,
             out: *mut u8,
@@ -319,4 +445,12 @@ pub fn write_report(count: u32, heads: ReportHeads, errors: &[ErrorRecord], out:
     unsafe {
         exported::basilothyn_write_report(count, heads, errors.as_ptr(), errors.len(), out.as_mut_ptr(), out.len())
     }
+}
+
+pub fn read_statistics(body: &[u8]) -> StatisticsResult {
+    unsafe { exported::basilothyn_read_statistics(body.as_ptr(), body.len()) }
+}
+
+pub fn write_return(outgoing: Outgoing, errors: &[ErrorRecord], out: &mut [u8]) -> WriteResult {
+    unsafe { exported::basilothyn_write_return(outgoing, errors.as_ptr(), errors.len(), out.as_mut_ptr(), out.len()) }
 }

@@ -50,6 +50,7 @@ refusals! {
     NothingHeld = 25, "a recall meets nothing that is held";
     OutputTooShort = 26, "the output is too short";
     ErrorInvalid = 27, "an error's status or operation is not allowed";
+    TimeInvalid = 28, "a time has 1,000,000,000 nanoseconds or more, or negative seconds";
 }
 
 impl Refusal {

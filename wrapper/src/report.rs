@@ -1,10 +1,10 @@
 //! Error reports, for LAYOUTRETURN.
 
 use crate::device::{id_at, DeviceId};
-use crate::raw::{self, ErrorRecord, ReportHead, ReportHeads};
+use crate::raw::{self, count, ErrorRecord, ReportHead, ReportHeads, REPORTS};
 use crate::refusal::{accepted, Refusal};
 
-/// An output of so many bytes is enough for any reports.
+/// An output of so many bytes is enough for any reports without statistics.
 pub const LONGEST_REPORT: usize = 3_368;
 
 /// The bytes of one error in a report body.
@@ -52,7 +52,7 @@ pub fn read_error(body: &[u8], at: usize) -> Result<IoError, Refusal> {
     Ok(IoError { device: id_at(body, read.device), status: read.status, operation })
 }
 
-/// The reports in an `ff_layoutreturn4` body.
+/// The reports in an `ff_layoutreturn4` body. Its statistics are judged too.
 pub fn read_reports(body: &[u8]) -> Result<Vec<Report>, Refusal> {
     let read = raw::read_reports(body);
     accepted(read.refusal)?;
@@ -66,24 +66,29 @@ fn report_at(body: &[u8], head: &ReportHead, first: usize) -> Result<Report, Ref
     Ok(Report { offset: head.offset, length: head.length, stateid: head.stateid, errors })
 }
 
-/// Writes reports as an `ff_layoutreturn4` body to the front of an output, and answers its length.
+/// Writes reports as an `ff_layoutreturn4` body without statistics to the front of an output, and answers its length.
 pub fn write_reports(reports: &[Report], out: &mut [u8]) -> Result<usize, Refusal> {
-    let mut heads = ReportHeads::default();
-    for (head, report) in heads.heads.iter_mut().zip(reports) {
-        let Report { offset, length, stateid, ref errors } = *report;
-        *head = ReportHead { offset, length, stateid, errors: count(errors.len()) };
-    }
-    let errors: Vec<_> = reports.iter().flat_map(|report| &report.errors).map(record).collect();
-    let written = raw::write_report(count(reports.len()), heads, &errors, out);
+    let heads = ReportHeads { heads: heads(reports) };
+    let written = raw::write_report(count(reports.len()), heads, &errors(reports), out);
     accepted(written.refusal)?;
     Ok(written.length as usize)
 }
 
-fn record(error: &IoError) -> ErrorRecord {
-    ErrorRecord { device: error.device.0, status: error.status, operation: error.operation as u32 }
+/// Of more reports than there may be only the first ones: the core refuses their number.
+pub(crate) fn heads(reports: &[Report]) -> [ReportHead; REPORTS] {
+    let mut heads = [ReportHead::default(); REPORTS];
+    for (head, report) in heads.iter_mut().zip(reports) {
+        let Report { offset, length, stateid, ref errors } = *report;
+        *head = ReportHead { offset, length, stateid, errors: count(errors.len()) };
+    }
+    heads
 }
 
-/// A count that does not fit is above every limit all the same.
-fn count(length: usize) -> u32 {
-    length.try_into().unwrap_or(u32::MAX)
+/// The errors of all reports, one after the other.
+pub(crate) fn errors(reports: &[Report]) -> Vec<ErrorRecord> {
+    reports.iter().flat_map(|report| &report.errors).map(record).collect()
+}
+
+fn record(error: &IoError) -> ErrorRecord {
+    ErrorRecord { device: error.device.0, status: error.status, operation: error.operation as u32 }
 }

@@ -31,7 +31,29 @@ fn layouts() -> String {
         record!("error", ErrorRecord: "device" device, "status" status, "operation" operation),
         record!("write_result", WriteResult: "refusal" refusal, "length" length),
     ];
-    records.concat() + "\n"
+    records.concat() + &layouts_of_statistics() + "\n"
+}
+
+fn layouts_of_statistics() -> String {
+    let records = [
+        record!("time", TimeRecord: "seconds" seconds, "nanoseconds" nanoseconds),
+        record!("io_info", IoInfoRecord: "count" count, "bytes" bytes),
+        record!("latency", LatencyRecord: "ops_requested" ops_requested, "bytes_requested" bytes_requested,
+            "ops_completed" ops_completed, "bytes_completed" bytes_completed,
+            "bytes_not_delivered" bytes_not_delivered, "busy" busy, "completion" completion),
+        record!("netid", NetidRecord: "length" length, "bytes" bytes),
+        record!("address_text", AddressTextRecord: "length" length, "bytes" bytes),
+        record!("filehandle", FilehandleRecord: "length" length, "bytes" bytes),
+        record!("netaddr", NetaddrRecord: "netid" netid, "text" text),
+        record!("layout_update", LayoutUpdateRecord: "address" address, "filehandle" filehandle, "read" read,
+            "write" write, "duration" duration, "local" local),
+        record!("statistic", StatisticRecord: "offset" offset, "length" length, "stateid" stateid, "read" read,
+            "write" write, "device" device, "update" update),
+        record!("statistics_result", StatisticsResult: "refusal" refusal, "count" count, "statistics" statistics),
+        record!("outgoing", Outgoing: "count" count, "heads" heads, "statistic_count" statistic_count,
+            "statistics" statistics),
+    ];
+    records.concat()
 }
 
 #[test]

@@ -23,8 +23,8 @@ fn line_of_the_header(line: &str) -> (String, u32, String) {
 #[test]
 fn every_refusal_of_the_header_has_its_name_and_words() {
     let header = of_the_header();
-    assert_eq!(header.len(), 25);
-    assert_eq!(Refusal::ALL.len(), 25);
+    assert_eq!(header.len(), 26);
+    assert_eq!(Refusal::ALL.len(), 26);
     for (name, number, words) in header {
         let refusal = Refusal::from_number(number).expect("a refusal of the header");
         assert_eq!(format!("{refusal:?}").to_lowercase(), name);
@@ -35,7 +35,7 @@ fn every_refusal_of_the_header_has_its_name_and_words() {
 
 #[test]
 fn no_other_number_is_a_refusal() {
-    for number in [0, 18, 19, 28, u32::MAX] {
+    for number in [0, 18, 19, 29, u32::MAX] {
         assert_eq!(Refusal::from_number(number), None);
     }
 }

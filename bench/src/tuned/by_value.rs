@@ -1,8 +1,8 @@
 //! The tuned Rust with the core's boundary: a table goes in and comes out by value, as a record of plain numbers, through functions that are not inlined.
 
 use super::table::{Right, Segment, Segments, Table, ENTRIES};
-use super::{events, locate};
-use basilothyn::raw::{EventResult, LocateResult, SegmentRecord, TableRecord};
+use super::{events, locate, return_writing};
+use basilothyn::raw::{ErrorRecord, EventResult, LocateResult, Outgoing, SegmentRecord, TableRecord, WriteResult};
 
 const UNSOUND: u32 = 20;
 
@@ -28,6 +28,15 @@ pub extern "C" fn layout_return(
 #[allow(improper_ctypes_definitions)]
 pub extern "C" fn recall(record: TableRecord, store: &mut [u8], offset: u64, length: u64, iomode: u32) -> EventResult {
     event(record, |table| events::recall(table, store, offset, length, iomode))
+}
+
+#[inline(never)]
+#[allow(improper_ctypes_definitions)]
+pub extern "C" fn write_return(outgoing: Outgoing, errors: &[ErrorRecord], out: &mut [u8]) -> WriteResult {
+    match return_writing::write_return(&outgoing, errors, out) {
+        Ok(length) => WriteResult { refusal: 0, length: length as u64 },
+        Err(refusal) => WriteResult { refusal, length: 0 },
+    }
 }
 
 #[inline(never)]

@@ -93,7 +93,7 @@ fn behind_server(body: &[u8], start: usize) -> Result<usize, u32> {
 }
 
 #[inline(always)]
-fn behind_opaque(body: &[u8], at: usize, least: u32, most: u32) -> Result<usize, u32> {
+pub fn behind_opaque(body: &[u8], at: usize, least: u32, most: u32) -> Result<usize, u32> {
     let length = count(body, at, least, most)?;
     let end = at + 4 + length.next_multiple_of(4);
     // The item's last four bytes hold its padding; those of an empty one are its length.

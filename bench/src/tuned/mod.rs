@@ -1,5 +1,5 @@
-//! The events and lookups once more, written from the scope paper to be fast: over references, without allocation, in plain safe Rust. Same checks, same
-//! order of refusals, same results as the core.
+//! The events, lookups, layout bodies and layout returns once more, written from the papers to be fast: over
+//! references, without allocation, in plain safe Rust. Same checks, same order of refusals, same results as the core.
 
 pub mod by_value;
 pub mod bytes;
@@ -9,6 +9,8 @@ pub mod layout;
 pub mod layout4;
 pub mod locate;
 pub mod ranges;
+pub mod return_writing;
+pub mod returns;
 pub mod soundness;
 pub mod store;
 pub mod table;

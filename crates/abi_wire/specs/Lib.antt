@@ -2,3 +2,4 @@ pub mod LayoutResults
 pub mod DeviceResults
 pub mod BindResults
 pub mod ReportResults
+pub mod StatisticsResults

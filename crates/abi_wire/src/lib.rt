@@ -5,6 +5,7 @@ mod devices;
 mod errors;
 mod layouts;
 mod reports;
+mod statistics_results;
 
 pub use bindings::BindResult;
 pub use bindings::bind_result;
@@ -22,3 +23,5 @@ pub use layouts::layout_result;
 pub use layouts::layout4_result;
 pub use reports::ReportsResult;
 pub use reports::reports_result;
+pub use statistics_results::StatisticsResult;
+pub use statistics_results::statistics_result;

@@ -1,8 +1,8 @@
 // What was read of an `ff_layoutreturn4` body: how many error reports, their heads, and where their errors are.
 use base::REPORT_ENTRIES;
 use base::STATEID_SIZE;
+use report::CountAnswer;
 use report::ReportHead;
-use report::ReportsAnswer;
 use report::ReportsRead;
 ghost use mathlib.Core.Path.{_≡_};
 ghost use Rattle.abi_wire.specs.ReportResults.{answerOfReports, reportsResult};
@@ -30,13 +30,13 @@ pub fn reports_result(x: ReportsRead) -> ReportsResult
     let errors_at = x.errors_at;
     let a = x.answer;
     match a {
-        ReportsAnswer::Refused(e) => ReportsResult {
+        CountAnswer::Refused(e) => ReportsResult {
             refusal: base::fault_number(e),
             count: 0,
             heads: [NO_HEAD; REPORT_ENTRIES],
             errors_at: [0usize; REPORT_ENTRIES],
         },
-        ReportsAnswer::Count(n) => ReportsResult {
+        CountAnswer::Count(n) => ReportsResult {
             refusal: 0,
             count: n,
             heads,

@@ -47,6 +47,7 @@ pub(crate) fn has_form(kind: u32, payload: &[u8]) -> bool {
         74 => is_set_byte(payload),
         75 => is_set_segment(payload),
         77 => is_lend(payload),
+        78 => wire_cases::is_return_write(payload),
         _ => false,
     }
 }

@@ -19,7 +19,8 @@ fn print_wire_case(kind: u32, payload: &[u8]) {
         66 => wire_cases::print_device(payload),
         67 => wire_cases::print_bind(payload),
         68 => wire_cases::print_report_read(payload),
-        _ => wire_cases::print_report_write(payload),
+        69 => wire_cases::print_report_write(payload),
+        _ => wire_cases::print_return_write(payload),
     }
 }
 

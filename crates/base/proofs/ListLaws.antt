@@ -7,7 +7,7 @@ use native.Mathlib.Nat.{add-zero}
 use native.Mathlib.Numerals.{add-one}
 use native.Mathlib.Omega.{arith}
 use lib.ListN.{length, take, drop, getD, replicate, set, length-append, length-map, length-replicate, length-set, replicate-append-replicate}
-use lib.Seq.{append-snoc, drop-append-add, set-append-left, set-at, set-comm, sets, sets-eq, take-all, take-append-seam, take-nil, take-suc, take-suc-set, take-take}
+use lib.Seq.{append-snoc, drop-append-add, drop-cons, set-append-left, set-at, set-comm, sets, sets-eq, take-all, take-append-seam, take-nil, take-suc, take-suc-set, take-take}
 use Rattle.base.specs.Lists.{Each, padded}
 
 -- the length of an array of structs, from what is known of a parameter
@@ -21,6 +21,13 @@ take-capped l k n m h e = go (decLe n k)
     go : Dec (n ≤ k) → take m l ≡ take n l
     go (yes j) = let f : m ≡ n = omega arith in rw f
     go (no j) = take-all m l (omega arith) ∙ sym (take-all n l (omega arith))
+
+-- of the elements from an index on, the first apart
+pub taken-next : {A : Type 0} (l : List A) (d : A) (i m : ℕ) → i < length l → 0 < m → take m (drop i l) ≡ getD l i d ∷ take (m - 1) (drop (i + 1) l)
+taken-next l d i zero h k = absurd (omega arith)
+taken-next l d i (suc m) h k =
+    let e : suc m - 1 ≡ m = omega arith in
+    rw (e, add-one i, drop-cons l i d h)
 
 -- a run of stores in two parts
 pub sets-append : {A : Type 0} (l : List A) (at : ℕ) (xs ys : List A) → sets l at (xs ++ ys) ≡ sets (sets l at xs) (at + length xs) ys

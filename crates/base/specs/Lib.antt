@@ -6,3 +6,4 @@ pub mod Best
 pub mod Refusals
 pub mod Ranges
 pub mod Iomodes
+pub mod Checks

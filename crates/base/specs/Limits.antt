@@ -1,5 +1,5 @@
 -- The limits and sizes of the scope, once each.
-use Prim.Native.Nat.{ℕ, _*_}
+use Prim.Native.Nat.{ℕ, _+_, _*_}
 
 -- "body at most 4,090 bytes"
 abbrev pub longestBody : ℕ
@@ -103,3 +103,19 @@ reportHeadSize = 36
 -- "errors of device id, status, operation"
 abbrev pub errorSize : ℕ
 errorSize = 24
+
+-- "Read and write up to 8 `ff_iostats4` records" (C-13)
+abbrev pub mostStatistics : ℕ
+mostStatistics = 8
+
+-- the shortest and the longest record: 80 bytes before the netid, three lengths, netid, address and filehandle with
+-- their padding, and 144 bytes after them
+abbrev pub shortestStatistic : ℕ
+shortestStatistic = 80 + 12 + (4 + 4 + 4) + 144
+
+abbrev pub longestStatistic : ℕ
+longestStatistic = 80 + 12 + (longestNetid + longestAddress + longestFilehandle) + 144
+
+-- the count and the longest records
+abbrev pub longestStatistics : ℕ
+longestStatistics = 4 + mostStatistics * longestStatistic

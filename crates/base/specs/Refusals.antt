@@ -57,6 +57,8 @@ numberOf refusal.NothingHeld = 25
 numberOf refusal.OutputTooShort = 26
 -- an error's operation is not 5, 25 or 38 (COMMIT, READ, WRITE), or its status is 0
 numberOf (refusal.Fault fault.ErrorInvalid) = 27
+-- a time's nanoseconds are 1,000,000,000 or more, or its seconds are negative (C-13)
+numberOf (refusal.Fault fault.TimeInvalid) = 28
 
 -- what a reader finds wrong, by the same table
 abbrev pub faultNumber : Fault → ℕ

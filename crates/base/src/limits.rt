@@ -93,3 +93,22 @@ pub const ERROR_SIZE: usize = 24;
 
 // "one lent list of records", of all errors of all reports
 pub const ERROR_LIST_SIZE: usize = MOST_ERRORS_IN_ALL * ERROR_SIZE;
+
+// "Read and write up to 8 `ff_iostats4` records" (C-13)
+pub const MOST_STATISTICS: u32 = 8;
+
+pub const STATISTIC_ENTRIES: usize = MOST_STATISTICS as usize;
+
+// The arrays of a record, as long as the longest netid, address and filehandle.
+pub const NETID_SIZE: usize = LONGEST_NETID as usize;
+
+pub const ADDRESS_SIZE: usize = LONGEST_ADDRESS as usize;
+
+pub const FILEHANDLE_SIZE: usize = LONGEST_FILEHANDLE as usize;
+
+// The longest record: 80 bytes before the netid, three lengths, the longest netid, address and filehandle, and 144
+// bytes after them.
+pub const LONGEST_STATISTIC: usize = 80 + 12 + NETID_SIZE + ADDRESS_SIZE + FILEHANDLE_SIZE + 144;
+
+// The count and the longest records.
+pub const LONGEST_STATISTICS: usize = 4 + STATISTIC_ENTRIES * LONGEST_STATISTIC;

@@ -17,6 +17,7 @@ pub enum Fault {
     FlagUnknown,
     VersionInvalid,
     ErrorInvalid,
+    TimeInvalid,
 }
 
 // What a call answers: a reader's fault, or a refusal of its own.
@@ -53,6 +54,7 @@ pub fn fault_number(f: Fault) -> u32
         Fault::FlagUnknown => 11,
         Fault::VersionInvalid => 12,
         Fault::ErrorInvalid => 27,
+        Fault::TimeInvalid => 28,
     }
 }
 

@@ -1,4 +1,4 @@
--- What the call that writes error reports gives back.
+-- What the calls that write error reports and layout returns give back.
 use Prim.Native.Nat.{ℕ}
 use Rattle.base.specs.Answer.{Answer, accepted, refused}
 use Rattle.basilothyn.specs.declared.reports.WriteResult.{WriteResult}

@@ -5,6 +5,7 @@ use abi_wire::ErrorResult;
 use abi_wire::Layout4Result;
 use abi_wire::LayoutResult;
 use abi_wire::ReportsResult;
+use abi_wire::StatisticsResult;
 use base::DEVICE_ID_SIZE;
 use base::MirrorNumber;
 use base::StripeNumber;
@@ -14,11 +15,12 @@ ghost use Rattle.layout.specs.Layouts.{layoutBody};
 ghost use Rattle.layout4.specs.Layout4s.{layout4};
 ghost use Rattle.device.specs.Bodies.{deviceBody};
 ghost use Rattle.binding.specs.Bindings.{boundTo};
-ghost use Rattle.report.specs.Reports.{errorAt, reportBody};
+ghost use Rattle.report.specs.Reports.{errorAt, reportBody, statisticsBody};
 ghost use Rattle.abi_wire.specs.LayoutResults.{layout4Result, layoutResult};
 ghost use Rattle.abi_wire.specs.DeviceResults.{deviceResult};
 ghost use Rattle.abi_wire.specs.BindResults.{bindResult};
 ghost use Rattle.abi_wire.specs.ReportResults.{arraysIn, errorResult, reportsResult};
+ghost use Rattle.abi_wire.specs.StatisticsResults.{statisticArrayIn, statisticsResult};
 
 #[no_mangle]
 pub extern "C" fn basilothyn_read_layout(body: &[u8]) -> LayoutResult
@@ -65,6 +67,13 @@ pub extern "C" fn basilothyn_read_reports(body: &[u8]) -> ReportsResult
     ensures { λ r. ⌜ r ≡ reportsResult (arraysIn (reportBody (now (body .entry)))) ⌝ }
 {
     abi_wire::reports_result(report::read_reports(body))
+}
+
+#[no_mangle]
+pub extern "C" fn basilothyn_read_statistics(body: &[u8]) -> StatisticsResult
+    ensures { λ r. ⌜ r ≡ statisticsResult (statisticArrayIn (statisticsBody (now (body .entry)))) ⌝ }
+{
+    abi_wire::statistics_result(report::read_statistics(body))
 }
 
 // The error that is at an offset of a body.

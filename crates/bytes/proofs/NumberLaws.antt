@@ -3,7 +3,7 @@
 use Prim.Native.Nat.{ℕ, zero, suc, _+_, _-_, _*_, _/_, _%_, _^_, _≤_, _<_}
 use mathlib.Core.Path.{_≡_, refl, sym, ap, _∙_}
 use mathlib.Core.List.{List, [], _∷_, _++_}
-use native.Mathlib.Nat.{pow-suc, add-mul, mul-assoc, mul-comm, div-add-mod', div-lt-iff-lt-mul}
+use native.Mathlib.Nat.{pow-suc, add-mul, mul-assoc, mul-comm, mul-le-mul-right, div-add-mod', div-lt-iff-lt-mul}
 use native.Mathlib.Numerals.{add-one}
 use native.Mathlib.Omega.{arith}
 use borrow.Author.Tests.{le-leb, lt-leb}
@@ -187,3 +187,17 @@ le-back (b ∷ bs) h =
     let q : (leValue bs * 256 + b) / 256 ≡ leValue bs = omega arith in
     let r : (leValue bs * 256 + b) % 256 ≡ b = omega arith in
     rw (q, r, le-back bs (λ i. h (suc i)))
+
+-- a number of bytes is below the next power
+pub be-small : (bs : List ℕ) → AllBytes bs → beValue bs < 256 ^ length bs
+be-small [] h = let z = be-none in omega arith
+be-small (b ∷ bs) h =
+    let P = 256 ^ length bs in
+    let k : beValue bs < P = be-small bs (λ i. h (suc i)) in
+    let c : b < 256 = h 0 in
+    let z = be-none in
+    let d : beValue (b ∷ []) ≡ b = be-snoc [] b ∙ omega arith in
+    let m : b * P ≤ 255 * P = mul-le-mul-right P (omega arith) in
+    let e : beValue (b ∷ bs) ≡ b * P + beValue bs = be-append (b ∷ []) bs ∙ ap (λ (n : ℕ). n * P + beValue bs) d in
+    let q : 256 ^ suc (length bs) ≡ P * 256 = pow-suc 256 (length bs) in
+    omega arith

@@ -9,11 +9,18 @@ use Rattle.xdr.specs.Parsed.{Parsed}
 use Rattle.xdr.specs.CountedLists.{listAt}
 use Rattle.server.specs.Servers.{handlesAt, serverHeadAt, serverAt}
 use Rattle.layout.specs.Layouts.{frontAt, layoutAt, layoutBody, mirrorAt, mirrorsAt, tailAt}
-use Rattle.layout4.specs.Layout4s.{frameAt, layout4, layout4At, rangeAt}
+use Rattle.xdr.specs.Items.{rangeAt}
+use Rattle.layout4.specs.Layout4s.{frameAt, layout4, layout4At}
 use Rattle.device.specs.Addresses.{addressAt}
 use Rattle.device.specs.Versions.{checkedVersion, versionAt}
 use Rattle.device.specs.Bodies.{deviceAt, deviceBody}
+use Rattle.base.specs.Answer.{given}
+use Rattle.statistics.specs.Latencies.{ioInfoAt, latencyAt, timeAt}
+use Rattle.statistics.specs.Statistics.{itemAt, netaddrAt, statisticAt, statisticsAt, updateAt}
+use Rattle.statistics.specs.StatisticChecks.{checkedStatistic, checkedStatistics}
+use Rattle.statistics.specs.declared.Statistic.{Statistic}
 use Rattle.report.specs.Reports as report
+use Rattle.report.specs.declared.Outgoing.{Outgoing}
 use Rattle.report.specs.declared.ReportHead.{ReportHead}
 use Rattle.report.specs.Writing as write
 use Rattle.claims.proofs.Faults.{FaultsIn, RefusalsIn, accepts, allIn, asked, bool-faults, bytes-faults, chosen, count-faults, inside-faults, many-faults, num-faults, opaque-faults, read, run, sixteen-faults, tested, tested-answer, whole-refusals, wider}
@@ -166,11 +173,9 @@ error-faults s at =
 report-head-faults : (s : List ℕ) (at : ℕ) → FaultsIn (1 ∷ 5 ∷ 8 ∷ []) (report.reportHeadAt s at)
 unfolding report.reportHeadAt
 report-head-faults s at =
-    run (num-faults 8 s at) refl λ offset p1.
-    run (num-faults 8 s p1) refl λ len p2.
-    run (inside-faults _ _ (range-refusals offset len)) refl λ last p.
-    run (sixteen-faults s p) refl λ stateid p3.
-    run (count-faults 1 16 s p3) refl λ n p4.
+    run (range-faults s at) refl λ range p1.
+    run (sixteen-faults s p1) refl λ stateid p2.
+    run (count-faults 1 16 s p2) refl λ n p3.
     read
 
 report-faults : (s : List ℕ) (at : ℕ) → FaultsIn (1 ∷ 5 ∷ 8 ∷ 27 ∷ []) (report.reportAt s at)
@@ -184,12 +189,68 @@ reports-faults : (s : List ℕ) (at : ℕ) → FaultsIn (1 ∷ 5 ∷ 8 ∷ 27 �
 unfolding report.reportsAt
 reports-faults s at = run (count-faults 0 8 s at) refl λ n p. many-faults report-faults n s p
 
-pub report-refusals : (s : List ℕ) → RefusalsIn (1 ∷ 2 ∷ 5 ∷ 8 ∷ 27 ∷ []) (report.reportBody s)
-unfolding report.reportBody
-report-refusals s =
+-- ---- statistics
+
+time-faults : (s : List ℕ) (at : ℕ) → FaultsIn (1 ∷ 28 ∷ []) (timeAt s at)
+unfolding timeAt
+time-faults s at = run (num-faults 8 s at) refl λ seconds p1. run (num-faults 4 s p1) refl λ nanoseconds p2. tested _ 28 read refl
+
+io-info-faults : (s : List ℕ) (at : ℕ) → FaultsIn (1 ∷ []) (ioInfoAt s at)
+unfolding ioInfoAt
+io-info-faults s at = run (num-faults 8 s at) refl λ count p1. run (num-faults 8 s p1) refl λ bytes p2. read
+
+latency-faults : (s : List ℕ) (at : ℕ) → FaultsIn (1 ∷ 28 ∷ []) (latencyAt s at)
+unfolding latencyAt
+latency-faults s at =
+    run (num-faults 8 s at) refl λ a p1.
+    run (num-faults 8 s p1) refl λ b p2.
+    run (num-faults 8 s p2) refl λ c p3.
+    run (num-faults 8 s p3) refl λ d p4.
+    run (num-faults 8 s p4) refl λ e p5.
+    run (time-faults s p5) refl λ busy p6.
+    run (time-faults s p6) refl λ completion p7.
+    read
+
+netaddr-faults : (s : List ℕ) (at : ℕ) → FaultsIn (1 ∷ 6 ∷ 8 ∷ []) (netaddrAt s at)
+unfolding netaddrAt
+netaddr-faults s at = run (opaque-faults 1 8 s at) refl λ netid p1. run (opaque-faults 1 64 s p1) refl λ text p2. read
+
+update-faults : (s : List ℕ) (at : ℕ) → FaultsIn (1 ∷ 6 ∷ 7 ∷ 8 ∷ 28 ∷ []) (updateAt s at)
+unfolding updateAt
+update-faults s at =
+    run (netaddr-faults s at) refl λ address p1.
+    run (opaque-faults 1 128 s p1) refl λ filehandle p2.
+    run (latency-faults s p2) refl λ reads p3.
+    run (latency-faults s p3) refl λ writes p4.
+    run (time-faults s p4) refl λ duration p5.
+    run (bool-faults s p5) refl λ local p6.
+    read
+
+item-faults : (s : List ℕ) (at : ℕ) → FaultsIn (1 ∷ 5 ∷ 6 ∷ 7 ∷ 8 ∷ 28 ∷ []) (itemAt s at)
+unfolding itemAt
+item-faults s at =
+    run (range-faults s at) refl λ range p1.
+    run (sixteen-faults s p1) refl λ stateid p2.
+    run (io-info-faults s p2) refl λ reads p3.
+    run (io-info-faults s p3) refl λ writes p4.
+    run (sixteen-faults s p4) refl λ device p5.
+    run (update-faults s p5) refl λ update p6.
+    read
+
+statistic-faults : (s : List ℕ) (at : ℕ) → FaultsIn (1 ∷ 5 ∷ 6 ∷ 7 ∷ 8 ∷ 28 ∷ []) (statisticAt s at)
+unfolding statisticAt
+statistic-faults s at = run (item-faults s at) refl λ i p. read
+
+statistics-faults : (s : List ℕ) (at : ℕ) → FaultsIn (1 ∷ 5 ∷ 6 ∷ 7 ∷ 8 ∷ 28 ∷ []) (statisticsAt s at)
+unfolding statisticsAt
+statistics-faults s at = run (count-faults 0 8 s at) refl λ n p. many-faults statistic-faults n s p
+
+pub return-refusals : (s : List ℕ) → RefusalsIn (1 ∷ 2 ∷ 5 ∷ 6 ∷ 7 ∷ 8 ∷ 27 ∷ 28 ∷ []) (report.returnBody s)
+unfolding report.returnBody
+return-refusals s =
     whole-refusals s _
-    (run (reports-faults s 0) refl λ rs q.
-    run (count-faults 0 0 s q) refl λ statistics z.
+    (run (reports-faults s 0) refl λ rs p.
+    run (statistics-faults s p) refl λ statistics q.
     read)
     refl
 
@@ -206,8 +267,30 @@ unfolding write.checkedReports
 checked-refusals [] es = accepts
 checked-refusals (h ∷ hs) es = asked (one-refusals h _) refl λ u. checked-refusals hs _
 
-pub written-refusals : (count : ℕ) (heads : List ReportHead) (errors : List write.ErrorEntry) (room : ℕ)
+record-refusals : (r : Statistic) → RefusalsIn (5 ∷ 7 ∷ 8 ∷ 28 ∷ []) (checkedStatistic r)
+unfolding checkedStatistic
+record-refusals r =
+    asked (range-refusals (r .offset) (r .length)) refl λ last.
+    tested-answer _ 8 (tested-answer _ 28 (tested-answer _ 7 accepts refl) refl) refl
+
+records-refusals : (rs : List Statistic) → RefusalsIn (5 ∷ 7 ∷ 8 ∷ 28 ∷ []) (checkedStatistics rs)
+unfolding checkedStatistics
+records-refusals [] = accepts
+records-refusals (r ∷ rs) = asked (record-refusals r) refl λ u. records-refusals rs
+
+pub written-refusals : (o : Outgoing) (errors : List write.ErrorEntry) (room : ℕ)
+    → RefusalsIn (5 ∷ 7 ∷ 8 ∷ 26 ∷ 27 ∷ 28 ∷ []) (write.returnWritten o errors room)
+unfolding write.returnWritten write.fitted
+written-refusals o errors room =
+    tested-answer _ 8
+    (tested-answer _ 8
+    (tested-answer _ 8 (asked (checked-refusals _ _) refl λ u. asked (records-refusals _) refl λ v. tested-answer _ 26 accepts refl) refl)
+    refl)
+    refl
+
+-- without statistics
+pub reports-refusals : (count : ℕ) (heads : List ReportHead) (errors : List write.ErrorEntry) (room : ℕ)
     → RefusalsIn (5 ∷ 8 ∷ 26 ∷ 27 ∷ []) (write.reportsWritten count heads errors room)
-unfolding write.reportsWritten write.bodyWritten write.fitted
-written-refusals count heads errors room =
-    tested-answer _ 8 (tested-answer _ 8 (asked (checked-refusals _ _) refl λ u. tested-answer _ 26 accepts refl) refl) refl
+unfolding write.reportsWritten write.returnWritten write.fitted checkedStatistics given
+reports-refusals count heads errors room =
+    tested-answer _ 8 (tested-answer _ 8 (tested-answer _ 8 (asked (checked-refusals _ _) refl λ u. tested-answer _ 26 accepts refl) refl) refl) refl

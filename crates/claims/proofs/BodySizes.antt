@@ -1,17 +1,17 @@
--- The sizes of accepted bodies: at least 80 bytes of a layout body and 108 of a layout4; of a report body exactly what its reports and errors come to.
+-- The sizes of accepted bodies: at least 80 bytes of a layout body and 108 of a layout4; of a layout return exactly what its reports, errors and records come to.
 use Prim.Native.Nat.{ℕ, zero, suc, _+_, _-_, _*_, _≤_}
 use mathlib.Core.Path.{_≡_, ap}
 use mathlib.Core.List.{List, [], _∷_, map}
 use native.Mathlib.Omega.{arith}
 use borrow.Author.Tests.{leb-true}
-use lib.ListN.{length}
+use lib.ListN.{length, length-append}
 use Rattle.base.specs.Answer.{accepted}
-use Rattle.bytes.specs.Numbers.{bytesFrom}
-use Rattle.bytes.proofs.NumberLaws.{length-bytes}
+use Rattle.bytes.specs.Numbers.{AllBytes, beBytes, bytesFrom}
+use Rattle.bytes.proofs.NumberLaws.{length-be, length-bytes}
 use Rattle.xdr.specs.Parsed.{ok, manyAt}
-use Rattle.xdr.specs.Items.{opaqueAt, padding}
+use Rattle.xdr.specs.Items.{opaqueAt, padding, rangeAt}
 use Rattle.xdr.specs.declared.Part.{Part}
-use Rattle.xdr.proofs.Accepted.{bytes-read, count-read, item-accepted, number-read, opaque-read, pick-inv, then-inv, same-offset, same-value, whole-read}
+use Rattle.xdr.proofs.Accepted.{bytes-read, count-read, item-accepted, number-read, opaque-read, pick-inv, range-read, then-inv, same-offset, same-value, whole-read}
 use Rattle.xdr.proofs.ManyLaws.{many-exact, many-least, many-length}
 use Rattle.server.specs.Servers.{handlesAt, serverAt}
 use Rattle.server.specs.declared.item.Server.{Server}
@@ -20,13 +20,21 @@ use Rattle.layout.specs.Layouts.{Layout, frontAt, layoutBody, mirrorAt, mirrors
 use Rattle.layout.specs.declared.front_and_tail.Front.{Front}
 use Rattle.layout.specs.declared.front_and_tail.Tail.{Tail}
 use Rattle.layout.proofs.LayoutLaws.{accepted-parts}
-use Rattle.layout4.specs.Layout4s.{WholeLayout, frameAt, layout4, layout4At, rangeAt}
+use Rattle.layout4.specs.Layout4s.{WholeLayout, frameAt, layout4, layout4At}
 use Rattle.layout4.specs.declared.frame.Frame.{Frame}
-use Rattle.layout4.specs.declared.frame.Range.{Range}
-use Rattle.report.specs.Reports.{Report, errorAt, reportHeadAt, reportAt, reportBody, reportsAt}
+use Rattle.xdr.specs.declared.range.Range.{Range}
+use Rattle.base.specs.Lists.{Each}
+use Rattle.base.proofs.AnswerLaws.{given-inv}
+use Rattle.statistics.specs.StatisticBytes.{StatisticFits, statisticBytes, statisticsBytes, statisticsPart}
+use Rattle.statistics.specs.StatisticChecks.{checkedStatistics}
+use Rattle.statistics.proofs.StatisticLaws.{length-statistic}
+use Rattle.statistics.specs.declared.Statistic.{Statistic}
+use Rattle.statistics.proofs.StatisticBack.{part-back}
+use Rattle.report.specs.Reports.{LayoutReturn, Report, errorAt, reportHeadAt, reportAt, returnBody}
 use Rattle.report.specs.declared.ErrorItem.{ErrorItem}
 use Rattle.report.specs.declared.ReportHead.{ReportHead}
 use Rattle.report.specs.Writing.{counts}
+use Rattle.report.proofs.ReturnRoundTrip.{read-all}
 
 -- ---- the layout body
 
@@ -111,16 +119,9 @@ layout-least s l e =
 -- ---- the layout4
 
 range-size : (s : List ℕ) (at : ℕ) (v : Range) (p : ℕ) → rangeAt s at ≡ ok v p → p ≡ at + 16
-unfolding rangeAt
 range-size s at v p h =
-    let o = then-inv _ _ v p h in
-    let l = then-inv _ _ v p (o .rest) in
-    let r = then-inv _ _ v p (l .rest) in
-    let on = number-read 8 s at (o .item) (o .next) (o .first) in
-    let ln = number-read 8 s (o .next) (l .item) (l .next) (l .first) in
-    let i = item-accepted _ (l .next) (r .item) (r .next) (r .first) in
-    let e : r .next ≡ p = same-offset (r .rest) in
-    omega (arith, on .end, ln .end, i .1, e)
+    let n = number-read 8 s (at + 8) (v .length) p (range-read s at v p h .len) in
+    omega (arith, n .end)
 
 frame-size : (s : List ℕ) (at : ℕ) (v : Frame) (p : ℕ) → frameAt s at ≡ ok v p → p ≡ at + 28
 unfolding frameAt
@@ -171,19 +172,15 @@ error-size s at v p h =
 head-size : (s : List ℕ) (at : ℕ) (v : ReportHead) (p : ℕ) → reportHeadAt s at ≡ ok v p → (p ≡ at + 36) × (v .errors ≤ 16)
 unfolding reportHeadAt
 head-size s at v p h =
-    let o = then-inv _ _ v p h in
-    let l = then-inv _ _ v p (o .rest) in
-    let r = then-inv _ _ v p (l .rest) in
+    let r = then-inv _ _ v p h in
     let t = then-inv _ _ v p (r .rest) in
     let n = then-inv _ _ v p (t .rest) in
-    let on = number-read 8 s at (o .item) (o .next) (o .first) in
-    let ln = number-read 8 s (o .next) (l .item) (l .next) (l .first) in
-    let i = item-accepted _ (l .next) (r .item) (r .next) (r .first) in
+    let rs = range-size s at (r .item) (r .next) (r .first) in
     let tb = bytes-read 16 s (r .next) (t .item) (t .next) (t .first) in
     let nc = count-read 1 16 s (t .next) (n .item) (n .next) (n .first) in
     let e : n .next ≡ p = same-offset (n .rest) in
     let g : n .item ≡ v .errors = ap (λ (x : ReportHead). x .errors) (same-value (n .rest)) in
-    (omega (arith, on .end, ln .end, i .1, tb .end, nc .number .end, e), omega (arith, nc .high, g))
+    (omega (arith, rs, tb .end, nc .number .end, e), omega (arith, nc .high, g))
 
 report-size : (s : List ℕ) (at : ℕ) (v : Report) (p : ℕ) → reportAt s at ≡ ok v p → (p ≡ at + 36 + v .head .errors * 24) × (v .head .errors ≤ 16)
 unfolding reportAt
@@ -213,25 +210,37 @@ reports-size (suc n) s at rs p h =
     let g : r .item ∷ t .item ≡ rs = same-value (t .rest) in
     rw (← g) (omega (arith, a .0, b .0, e), omega (arith, a .1, b .1))
 
-pub record ReportSize (s : List ℕ) (rs : List Report) : Type 0 where
-  pub exact : length s ≡ 8 + 36 * length rs + 24 * counts (map (λ r. r .head) rs)
-  pub most : length s ≤ 3368
+abbrev RecordSize : Statistic → Type 0
+RecordSize x = (248 ≤ length (statisticBytes x)) × (length (statisticBytes x) ≤ 436)
 
-pub report-body-size : (s : List ℕ) (rs : List Report) → reportBody s ≡ accepted rs → ReportSize s rs
-unfolding reportBody reportsAt
-report-body-size s rs h =
-    let w = whole-read s _ rs h in
-    let m = then-inv _ _ rs (length s) w in
-    let n = then-inv _ _ (m .item) (m .next) (m .first) in
-    let z = then-inv _ _ rs (length s) (m .rest) in
-    let nc = count-read 0 8 s 0 (n .item) (n .next) (n .first) in
-    let k : length (m .item) ≡ n .item = many-length reportAt (n .item) s (n .next) (m .item) (m .next) (n .rest) in
-    let b = reports-size (n .item) s (n .next) (m .item) (m .next) (n .rest) in
-    let zc = count-read 0 0 s (m .next) (z .item) (z .next) (z .first) in
-    let e : z .next ≡ length s = same-offset (z .rest) in
-    let g : m .item ≡ rs = same-value (z .rest) in
-    rw (← g)
-    (record {
-      exact = omega (arith, nc .number .end, b .0, zc .number .end, e);
-      most = omega (arith, nc .number .end, nc .high, k, b .0, b .1, zc .number .end, e);
-    })
+records-size : (rs : List Statistic) → Each StatisticFits rs → checkedStatistics rs ≡ accepted tt → Each RecordSize rs
+unfolding checkedStatistics
+records-size [] f e = tt
+records-size (r ∷ rs) f e =
+    let a = given-inv _ _ _ e in
+    (length-statistic r (f .0) (a .first), records-size rs (f .1) (a .rest))
+
+pub record ReturnSize (s : List ℕ) (r : LayoutReturn) : Type 0 where
+  pub exact : length s ≡ 8 + 36 * length (r .reports) + 24 * counts (map (λ x. x .head) (r .reports)) + length (statisticsBytes (r .statistics))
+  pub each : Each RecordSize (r .statistics)
+  pub reports : 8 + 36 * length (r .reports) + 24 * counts (map (λ x. x .head) (r .reports)) ≤ 3368
+  pub most : length s ≤ 6856
+
+part-size : (rs : List Statistic) → length (statisticsPart rs) ≡ 4 + length (statisticsBytes rs)
+unfolding statisticsPart
+part-size rs = rw (length-append (beBytes 4 (length rs)) (statisticsBytes rs)) (omega (arith, length-be 4 (length rs)))
+
+pub return-size : (s : List ℕ) (r : LayoutReturn) → AllBytes s → returnBody s ≡ accepted r → ReturnSize s r
+return-size s r b h =
+    let a = read-all s r h in
+    let x = a .reports in
+    let c = number-read 4 s 0 (length (r .reports)) 4 (x .count) in
+    let z = reports-size (length (r .reports)) s 4 (r .reports) (a .offset) (x .reports) in
+    let v = part-back s (a .offset) (r .statistics) (length s) b (a .statistics) in
+    let n = part-size (r .statistics) in
+    record {
+      exact = omega (arith, z .0, v .offset, n);
+      each = records-size (r .statistics) (v .fits) (v .allowed);
+      reports = omega (arith, z .1, x .few);
+      most = omega (arith, z .0, z .1, x .few, v .offset, v .high, v .few);
+    }

@@ -5,8 +5,9 @@
 // demand 2 the first sentence are the contracts themselves: no public function has a `requires`, each returns, and
 // its one `ensures` is an equation with a definition in specs/, which quotes the scope paper. `layoutBody` is what
 // `layout::read_layout` answers, `layout4` `layout4::read_layout4`, `deviceBody` `device::read_device`, `boundTo`
-// `binding::bind`, `reportBody` `report::read_reports`, `reportsWritten` both writers of reports, `eventResult`
-// `events::apply`, `routed` `route::locate`, `eventOnRecord` the exported events, `routedOn` the exported lookups.
+// `binding::bind`, `returnBody` both readers of layout returns, each with its half, `returnWritten` both writers, of
+// which that of reports alone sends no statistics, `eventResult` `events::apply`, `routed` `route::locate`,
+// `eventOnRecord` the exported events, `routedOn` the exported lookups.
 //
 // `accepted v` is an answer with its value, `refused n` a refusal with the scope paper's number, and `n ≡ 0 → ⊥` says
 // that n is not 0.
@@ -16,7 +17,7 @@ ghost use mathlib.Core.Logic.{_⊎_};
 ghost use mathlib.Core.Bool.{Bool, true, false, not, _&&_};
 ghost use mathlib.Core.List.{List, [], _∷_, _++_, map};
 ghost use lib.ListN.{getD, length, replicate, take};
-ghost use Rattle.base.specs.Limits.{errorSize, mostServers, reportHeadSize};
+ghost use Rattle.base.specs.Limits.{errorSize, longestStatistic, mostServers, reportHeadSize, shortestStatistic};
 ghost use Rattle.base.specs.Answer.{accepted, refused, given};
 ghost use Rattle.base.specs.Bits.{bit};
 ghost use Rattle.base.specs.declared.iomode.Iomode.the-variants.{Read, ReadWrite};
@@ -28,11 +29,13 @@ ghost use Rattle.layout.specs.Layouts.{Layout, flagsAtEnd, layoutBody, startAt,
 ghost use Rattle.layout4.specs.Layout4s.{WholeLayout, layout4};
 ghost use Rattle.device.specs.Bodies.{deviceBody};
 ghost use Rattle.binding.specs.Bindings.{boundTo};
-ghost use Rattle.report.specs.Reports.{Report, reportBody};
-ghost use Rattle.report.specs.Answers.{headsOf};
+ghost use Rattle.statistics.specs.StatisticBytes.{StatisticFits, cleared, statisticBytes, statisticsBytes};
+ghost use Rattle.statistics.specs.declared.Statistic.{Statistic};
+ghost use Rattle.report.specs.Reports.{LayoutReturn, Report, reportBody, returnBody, statisticsBody};
+ghost use Rattle.report.specs.declared.Outgoing.{Outgoing};
 ghost use Rattle.report.specs.declared.ReportHead.{ReportHead};
-ghost use Rattle.report.specs.ReportOffsets.{HeadFits, EntryFits, reportsFrom, entriesIn};
-ghost use Rattle.report.specs.Writing.{ErrorEntry, counts, outputAfter, reportsWritten};
+ghost use Rattle.report.specs.ReportOffsets.{HeadFits, EntryFits, entriesIn, outgoingOf, reportsFrom, sent};
+ghost use Rattle.report.specs.Writing.{ErrorEntry, counts, outputAfter, reportsWritten, returnWritten};
 ghost use Rattle.base.specs.Lists.{Each};
 ghost use Rattle.base.specs.Ranges.{lastByte, requestLast, toTheEnd};
 ghost use Rattle.segments.specs.declared.Table.{Table};
@@ -81,11 +84,11 @@ pub fn refused_calls_keep_records()
         → (eventOnRecord e given store .kept ≡ given) × (eventOnRecord e given store .store ≡ store)) ⌝ }
 {}
 
-// Demand 1 of the writer: a refused body leaves the output as it was.
-pub fn refused_reports_keep_the_output()
-    ensures { λ r. ⌜ ((count : ℕ) (heads : List ReportHead) (errors : List ErrorEntry) (out : List ℕ) (n : ℕ)
-        → reportsWritten count heads errors (length out) ≡ refused n
-        → outputAfter out (reportsWritten count heads errors (length out)) ≡ out) ⌝ }
+// Demand 1 of the writers: a refused body leaves the output as it was.
+pub fn refused_returns_keep_the_output()
+    ensures { λ r. ⌜ ((o : Outgoing) (errors : List ErrorEntry) (out : List ℕ) (n : ℕ)
+        → returnWritten o errors (length out) ≡ refused n
+        → outputAfter out (returnWritten o errors (length out)) ≡ out) ⌝ }
 {}
 
 // "Nothing else is refused", of bodies read and written: the numbers that each can be refused with. 0, which
@@ -96,7 +99,10 @@ pub fn bodies_refuse_as_listed()
         × ((s : List ℕ) (n : ℕ) → layout4 s ≡ refused n → isOneOf n (1 ∷ 2 ∷ 3 ∷ 4 ∷ 5 ∷ 6 ∷ 8 ∷ 9 ∷ 10 ∷ 11 ∷ [])
         ≡ true)
         × ((s : List ℕ) (n : ℕ) → deviceBody s ≡ refused n → isOneOf n (1 ∷ 2 ∷ 6 ∷ 7 ∷ 8 ∷ 12 ∷ []) ≡ true)
-        × ((s : List ℕ) (n : ℕ) → reportBody s ≡ refused n → isOneOf n (1 ∷ 2 ∷ 5 ∷ 8 ∷ 27 ∷ []) ≡ true)
+        × ((s : List ℕ) (n : ℕ) → returnBody s ≡ refused n
+        → isOneOf n (1 ∷ 2 ∷ 5 ∷ 6 ∷ 7 ∷ 8 ∷ 27 ∷ 28 ∷ []) ≡ true)
+        × ((o : Outgoing) (errors : List ErrorEntry) (room n : ℕ) → returnWritten o errors room ≡ refused n
+        → isOneOf n (5 ∷ 7 ∷ 8 ∷ 26 ∷ 27 ∷ 28 ∷ []) ≡ true)
         × ((count : ℕ) (heads : List ReportHead) (errors : List ErrorEntry) (room n : ℕ)
         → reportsWritten count heads errors room ≡ refused n
         → isOneOf n (5 ∷ 8 ∷ 26 ∷ 27 ∷ []) ≡ true) ⌝ }
@@ -264,42 +270,71 @@ pub fn flags_are_at_the_end()
 {}
 
 // "The smallest accepted body has 80 bytes"; of layout4 "The smallest has 108 bytes": no accepted one has fewer, and
-// one has so many. "By these counts a body has at most 3,368 bytes ..; one report with one error has 68": 8 bytes, 36
-// a report and 24 an error.
+// one has so many.
 pub fn bodies_have_their_sizes()
     ensures { λ r. ⌜ ((s : List ℕ) (l : Layout) → layoutBody s ≡ accepted l → 80 ≤ length s)
         × ((isAccepted (layoutBody (bodyOf 0 1 0)) ≡ true) × (length (bodyOf 0 1 0) ≡ 80))
         × ((s : List ℕ) (w : WholeLayout) → layout4 s ≡ accepted w → 108 ≤ length s)
-        × ((isAccepted (layout4 (grantBytes 0 1 2 0)) ≡ true) × (length (grantBytes 0 1 2 0) ≡ 108))
-        × ((s : List ℕ) (rs : List Report) → reportBody s ≡ accepted rs
-        → (length s ≡ 8 + reportHeadSize * length rs + errorSize * counts (map (λ r. r .head) rs))
-        × (length s ≤ 3368))
-        × ((s : List ℕ) (r : Report) → reportBody s ≡ accepted (r ∷ []) → r .head .errors ≡ 1 → length s ≡ 68) ⌝ }
+        × ((isAccepted (layout4 (grantBytes 0 1 2 0)) ≡ true) × (length (grantBytes 0 1 2 0) ≡ 108)) ⌝ }
 {}
 
-// Reading what was written gives the same reports, and at their offsets the same errors, for values that their fields
-// can hold. The first report is at 4, after the count.
-pub fn reports_written_are_read()
-    ensures { λ r. ⌜ ((count : ℕ) (heads : List ReportHead) (errors : List ErrorEntry) (room : ℕ) (bs : List ℕ)
-        → Each HeadFits (take count heads) → Each EntryFits errors → reportsWritten count heads errors room
-        ≡ accepted bs
-        → (reportBody bs ≡ accepted (reportsFrom (take count heads) 4))
-        × (entriesIn bs (reportsFrom (take count heads) 4) ≡ errors)) ⌝ }
+// A layout return has 8 bytes, 36 a report, 24 an error, and 248 to 436 a record of statistics: "a body has at most
+// 6,856 bytes, and 3,368 without statistics, ..; without statistics one report with one error has 68" (C-13).
+pub fn returns_have_their_sizes()
+    ensures { λ r. ⌜ ((s : List ℕ) (r : LayoutReturn) → AllBytes s → returnBody s ≡ accepted r
+        → (length s ≡ 8 + reportHeadSize * length (r .reports) + errorSize * counts (map (λ x. x .head) (r .reports))
+        + length (statisticsBytes (r .statistics)))
+        × Each (λ x. (shortestStatistic ≤ length (statisticBytes x)) × (length (statisticBytes x) ≤ longestStatistic))
+        (r .statistics)
+        × (length s ≤ 6856))
+        × ((s : List ℕ) (rs : List Report) → AllBytes s
+        → returnBody s ≡ accepted (record { reports = rs; statistics = [] }) → length s ≤ 3368)
+        × ((s : List ℕ) (x : Report) → AllBytes s
+        → returnBody s ≡ accepted (record { reports = x ∷ []; statistics = [] })
+        → x .head .errors ≡ 1 → length s ≡ 68) ⌝ }
 {}
 
-// Writing what was read gives the same bytes, so no two bodies have the same reports and errors. room: the output's
-// length.
-pub fn reports_read_are_written()
-    ensures { λ r. ⌜ ((bs : List ℕ) (reports : List Report) (room : ℕ) → AllBytes bs → length bs ≤ room
-        → reportBody bs ≡ accepted reports
-        → reportsWritten (length reports) (headsOf reports) (entriesIn bs reports) room ≡ accepted bs) ⌝ }
+// What each reader of layout returns hands out is a half of one body, and both refuse alike.
+pub fn halves_are_of_one_body()
+    ensures { λ r. ⌜ ((s : List ℕ) (r : LayoutReturn) → returnBody s ≡ accepted r
+        → (reportBody s ≡ accepted (r .reports)) × (statisticsBody s ≡ accepted (r .statistics)))
+        × ((s : List ℕ) (n : ℕ) → returnBody s ≡ refused n
+        → (reportBody s ≡ refused n) × (statisticsBody s ≡ refused n)) ⌝ }
 {}
 
-// A report body with nothing in it: eight zero bytes.
-pub fn no_report_is_eight_zeros()
-    ensures { λ r. ⌜ ((heads : List ReportHead) (room : ℕ) → 8 ≤ room → reportsWritten 0 heads [] room
+// "Reading what was written gives the same records (spare bytes past a length aside)" (C-13), the same reports, and at
+// their offsets the same errors, for values that their fields can hold. The first report is at 4, after the count.
+pub fn returns_written_are_read()
+    ensures { λ r. ⌜ ((o : Outgoing) (errors : List ErrorEntry) (room : ℕ) (bs : List ℕ)
+        → Each HeadFits (take (o .count) (o .heads)) → Each EntryFits errors → Each StatisticFits (sent o)
+        → returnWritten o errors room ≡ accepted bs
+        → (returnBody bs ≡ accepted (record {
+          reports = reportsFrom (take (o .count) (o .heads)) 4;
+          statistics = map cleared (sent o);
+        }))
+        × (entriesIn bs (reportsFrom (take (o .count) (o .heads)) 4) ≡ errors)) ⌝ }
+{}
+
+// "writing what was read gives the same bytes" (C-13), so no two bodies have the same reports, errors and records.
+// room: the output's length.
+pub fn returns_read_are_written()
+    ensures { λ r. ⌜ ((bs : List ℕ) (r : LayoutReturn) (room : ℕ) → AllBytes bs → length bs ≤ room
+        → returnBody bs ≡ accepted r
+        → returnWritten (outgoingOf r) (entriesIn bs (r .reports)) room ≡ accepted bs) ⌝ }
+{}
+
+// What was read has no spare bytes but zeros, so writing and reading it again gives the same records.
+pub fn records_read_are_clear()
+    ensures { λ r. ⌜ ((bs : List ℕ) (r : LayoutReturn) → AllBytes bs → returnBody bs ≡ accepted r
+        → map cleared (r .statistics) ≡ r .statistics) ⌝ }
+{}
+
+// A layout return with nothing in it: eight zero bytes.
+pub fn nothing_is_eight_zeros()
+    ensures { λ r. ⌜ ((heads : List ReportHead) (statistics : List Statistic) (room : ℕ) → 8 ≤ room
+        → returnWritten (record { count = 0; heads = heads; «statistic_count» = 0; statistics = statistics }) [] room
         ≡ accepted (replicate 8 0))
-        × (reportBody (replicate 8 0) ≡ accepted []) ⌝ }
+        × (returnBody (replicate 8 0) ≡ accepted (record { reports = []; statistics = [] })) ⌝ }
 {}
 
 // ---- From demand 2, of where an I/O goes

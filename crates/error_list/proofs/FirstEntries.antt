@@ -1,6 +1,6 @@
 -- Writing looks at the list's length and at its first 128 records: a report has at most 16 errors, or is refused before its errors are looked at.
 use Prim.Native.Nat.{ℕ, suc, _+_, _*_, _≤_, _<_}
-use mathlib.Core.Path.{_≡_, refl, ap, _∙_}
+use mathlib.Core.Path.{_≡_, refl}
 use mathlib.Core.List.{List, [], _∷_, _++_}
 use mathlib.Core.Bool.{Bool, true, false, _&&_, and-false}
 use native.Mathlib.Omega.{arith}
@@ -11,8 +11,12 @@ use Rattle.base.specs.Answer.{Answer, accepted, refused, given, pick}
 use Rattle.base.proofs.ListLaws.{distinct-behind, distinct-less}
 use Rattle.base.specs.Ranges.{rangeLast}
 use Rattle.bytes.specs.Numbers.{beBytes}
+use Rattle.statistics.specs.declared.Statistic.{Statistic}
+use Rattle.statistics.specs.StatisticBytes.{statisticsPart}
+use Rattle.statistics.specs.StatisticChecks.{checkedStatistics}
+use Rattle.report.specs.declared.Outgoing.{Outgoing}
 use Rattle.report.specs.declared.ReportHead.{ReportHead}
-use Rattle.report.specs.Writing.{allFit, bodyBytes, bodyWritten, counts, ErrorEntry, errorsBytes, fitted, headBytes, checkedReports, checkedReport, reportsBytes, reportsWritten}
+use Rattle.report.specs.Writing.{allFit, bodyBytes, counts, ErrorEntry, errorsBytes, fitted, headBytes, checkedReports, checkedReport, reportsBytes, returnBytes, returnWritten}
 
 -- ---- one report
 
@@ -55,17 +59,26 @@ reports-alike {B} (h ∷ hs) xs ys f e = go (leb (h .errors) 16) refl (reports-a
 
 -- ---- the whole
 
-pub firsts-decide : (count : ℕ) (heads : List ReportHead) (xs ys : List ErrorEntry) (room : ℕ) → length xs ≡ length ys → take 128 xs ≡ take 128 ys
-    → reportsWritten count heads xs room ≡ reportsWritten count heads ys room
-unfolding reportsWritten bodyWritten bodyBytes pick
-firsts-decide count heads xs ys room l e = rw l (go (leb count 8) refl) where
-  go : (t : Bool) → leb count 8 ≡ t
-      → pick t (pick (eqb (counts (take count heads)) (length ys)) (given (checkedReports (take count heads) xs) (λ u. fitted (bodyBytes (take count heads) xs (beBytes 4 0)) room)) (refused 8)) (refused 8)
-      ≡ pick t (pick (eqb (counts (take count heads)) (length ys)) (given (checkedReports (take count heads) ys) (λ u. fitted (bodyBytes (take count heads) ys (beBytes 4 0)) room)) (refused 8)) (refused 8)
+-- what is written of the reports hs with the errors zs, and of the statistics rs
+abbrev judged : List ReportHead → List Statistic → ℕ → List ErrorEntry → Answer (List ℕ)
+judged hs rs room zs = given (checkedReports hs zs) (λ u. given (checkedStatistics rs) (λ v. fitted (returnBytes hs zs rs) room))
+
+judged-alike : (hs : List ReportHead) (rs : List Statistic) (xs ys : List ErrorEntry) (room : ℕ) → length hs ≤ 8 → take 128 xs ≡ take 128 ys → judged hs rs room xs ≡ judged hs rs room ys
+unfolding bodyBytes
+judged-alike hs rs xs ys room n e =
+    reports-alike hs xs ys (λ bs. given (checkedStatistics rs) (λ v. fitted (beBytes 4 (length hs) ++ (bs ++ statisticsPart rs)) room))
+    (distinct-less (16 * length hs) 128 xs ys (omega arith) e)
+
+pub firsts-decide : (o : Outgoing) (xs ys : List ErrorEntry) (room : ℕ) → length xs ≡ length ys → take 128 xs ≡ take 128 ys → returnWritten o xs room ≡ returnWritten o ys room
+unfolding returnWritten pick
+firsts-decide o xs ys room l e = rw l (go (leb (o .count) 8) refl) where
+  go : (t : Bool) → leb (o .count) 8 ≡ t
+      → pick t (pick (eqb (counts (take (o .count) (o .heads))) (length ys)) (pick (leb (o .«statistic_count») 8)
+      (judged (take (o .count) (o .heads)) (take (o .«statistic_count») (o .statistics)) room xs) (refused 8)) (refused 8)) (refused 8)
+      ≡ pick t (pick (eqb (counts (take (o .count) (o .heads))) (length ys)) (pick (leb (o .«statistic_count») 8)
+      (judged (take (o .count) (o .heads)) (take (o .«statistic_count») (o .statistics)) room ys) (refused 8)) (refused 8)) (refused 8)
   go true k =
-      let hs = take count heads in
-      let few : count ≤ 8 = leb-true count 8 k in
-      let n : length hs ≤ 8 = rw (length-take count heads) (omega arith) in
-      ap (λ (x : Answer (List ℕ)). pick true (pick (eqb (counts hs) (length ys)) x (refused 8)) (refused 8))
-      (reports-alike hs xs ys (λ bs. fitted (beBytes 4 (length hs) ++ (bs ++ beBytes 4 0)) room) (distinct-less (16 * length hs) 128 xs ys (omega (arith, n)) e))
+      let few : o .count ≤ 8 = leb-true (o .count) 8 k in
+      let n : length (take (o .count) (o .heads)) ≤ 8 = rw (length-take (o .count) (o .heads)) (omega arith) in
+      rw (judged-alike (take (o .count) (o .heads)) (take (o .«statistic_count») (o .statistics)) xs ys room n e)
   go false k = refl

@@ -3,3 +3,4 @@ pub mod WireEntries
 pub mod State
 pub mod Again
 pub mod Local
+pub mod ArrayCalls

@@ -13,10 +13,11 @@ use Rattle.bytes.specs.Buffers.{stored}
 use Rattle.bytes.proofs.StoredLaws.{fits-stored}
 use Rattle.bytes.specs.Numbers.{beAt, bytesFrom}
 use Rattle.bytes.proofs.BytesAtLaws.{BytesAt}
+use Rattle.report.specs.declared.Outgoing.{Outgoing}
 use Rattle.report.specs.declared.ReportHead.{ReportHead}
 use Rattle.report.specs.ReportOffsets.{EntryFits}
 use Rattle.report.specs.Writing as writing
-use Rattle.report.specs.Writing.{errorBytes, entryHere, entriesAt, reportsWritten}
+use Rattle.report.specs.Writing.{errorBytes, entryHere, entriesAt, reportsOnly, reportsWritten, returnWritten}
 use Rattle.report.proofs.EntryLaws.{length-entries, take-entries}
 use Rattle.report.proofs.StoringLaws.{length-error}
 use Rattle.report.proofs.Written.{entry-stands}
@@ -94,10 +95,16 @@ firsts-are es s h = go (leb (length es) 128) refl where
       let n : length es ≡ 128 + (length es - 128) = omega arith in
       ap (λ (i : ℕ). take 128 (entriesAt i s 0)) n ∙ take-entries 128 (length es - 128) s 0 ∙ rw m at h
 
-pub written-from : (count : ℕ) (heads : List ReportHead) (es : List ErrorEntry) (s : List ℕ) (n room : ℕ) → n ≡ min (length es) 128
-    → entriesAt n s 0 ≡ entriesOf (take n es) → reportsWritten count heads (entriesAt (length es) s 0) room ≡ reportsWritten count heads (entriesOf es) room
-written-from count heads es s n room few h =
+pub written-from : (o : Outgoing) (es : List ErrorEntry) (s : List ℕ) (n room : ℕ) → n ≡ min (length es) 128
+    → entriesAt n s 0 ≡ entriesOf (take n es) → returnWritten o (entriesAt (length es) s 0) room ≡ returnWritten o (entriesOf es) room
+written-from o es s n room few h =
     let k : length (entriesOf es) ≡ length es = length-map es entryOf in
     let l : length (entriesAt (length es) s 0) ≡ length (entriesOf es) = length-entries (length es) s 0 ∙ sym k in
     let f = firsts-are (entriesOf es) s (rw (k, ← few) (h ∙ taken-entries n es)) in
-    firsts-decide count heads (entriesAt (length es) s 0) (entriesOf es) room l (rw k at f)
+    firsts-decide o (entriesAt (length es) s 0) (entriesOf es) room l (rw k at f)
+
+-- error reports alone
+pub reports-from : (count : ℕ) (heads : List ReportHead) (es : List ErrorEntry) (s : List ℕ) (n room : ℕ) → n ≡ min (length es) 128
+    → entriesAt n s 0 ≡ entriesOf (take n es) → reportsWritten count heads (entriesAt (length es) s 0) room ≡ reportsWritten count heads (entriesOf es) room
+unfolding reportsWritten
+reports-from count heads es s n room few h = written-from (reportsOnly count heads) es s n room few h

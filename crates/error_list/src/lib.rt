@@ -4,6 +4,7 @@ use base::ERROR_LIST_SIZE;
 use base::ERROR_SIZE;
 use base::MOST_ERRORS_IN_ALL;
 use base::REPORT_ENTRIES;
+use report::Outgoing;
 use report::ReportHead;
 use report::Written;
 ghost use mathlib.Core.Path.{_≡_};
@@ -11,8 +12,9 @@ ghost use mathlib.Core.List.{[], _∷_, _++_};
 ghost use Prim.Native.Nat.{_+_, _*_, _≤_, min};
 ghost use lib.ListN.{length, take};
 ghost use Rattle.base.specs.Limits.{errorSize, mostErrorsInAll};
-ghost use Rattle.report.specs.Writing.{outputAfter, entriesAt, reportsWritten};
-ghost use Rattle.report.specs.WriteAnswers.{answerOfWritten, lengthOf};
+ghost use Rattle.base.specs.Lists.{lengthOf};
+ghost use Rattle.report.specs.Writing.{outputAfter, entriesAt, reportsWritten, returnWritten};
+ghost use Rattle.report.specs.WriteAnswers.{answerOfWritten};
 ghost use Rattle.error_list.specs.Entries.{entryOf, entriesOf};
 
 // One error of the list, laid out as a caller in C lays it out.
@@ -72,4 +74,17 @@ pub fn write_error_list(
     let mut entries = [0u8; ERROR_LIST_SIZE];
     put_entries(&mut entries, errors, n);
     report::write_reports(count, heads, errors.len(), &entries, out)
+}
+
+// A layout return, from the list of errors. Proved by hand, as it hands the list on.
+pub fn write_return_list(outgoing: Outgoing, errors: &[ErrorEntry], out: &mut [u8]) -> Written
+    ensures { λ r. ⌜ (answerOfWritten r ≡ lengthOf
+        (returnWritten outgoing (entriesOf (now (errors .entry))) (length (now (out .entry)))))
+        × (now (out .exit) ≡ outputAfter (now (out .entry))
+        (returnWritten outgoing (entriesOf (now (errors .entry))) (length (now (out .entry))))) ⌝ }
+{
+    let n = entries_used(errors.len());
+    let mut entries = [0u8; ERROR_LIST_SIZE];
+    put_entries(&mut entries, errors, n);
+    report::write_return(outgoing, errors.len(), &entries, out)
 }

@@ -10,7 +10,7 @@ use Rattle.base.specs.Lists.{Each, padded}
 use Rattle.base.specs.Ranges.{rangeLast, requestLast}
 use Rattle.base.proofs.AnswerLaws.{both}
 use Rattle.layout.specs.Layouts.{frontAt, layoutAt, layoutBody, mirrorAt, mirrorsAt, rows, startAt, startsOf, tailAt, unitFits}
-use Rattle.layout4.specs.Layout4s.{frameAt, layout4, layout4At, rangeAt}
+use Rattle.layout4.specs.Layout4s.{frameAt, layout4, layout4At}
 use Rattle.bytes.specs.Numbers.{allZero, beAt, beBytes, beFrom, beValue, leAt, leBytes, leValue, sameBytes}
 use Rattle.model.specs.Cases.{bodyOf, grantBytes, servers}
 use Rattle.model.specs.Model.{act, afterAt, answerTo, answers, anyByte, covers, grantCommand, ifNamed, inLowest, inSlots, meets, modelAfter, noneEmpty, readCommand, rangeCommand, run, segmentsIn, slotOf, tooMany, verdict}
@@ -19,14 +19,16 @@ use Rattle.model.proofs.ShortFiles.{allStay, stays, staysIn}
 use Rattle.model.specs.SlotsShown.{allDistinct, slotsFrom, slotsIn}
 use Rattle.soundness.specs.Sound.{allBlank, apart, apartFromNext, inOrder, isFit, segmentsSound, slotSound, slotsSound, sound}
 use Rattle.report.specs.Reports.{errorFits}
-use Rattle.report.specs.Writing.{allFit, bodyBytes, bodyWritten, counts, errorBytes, errorsBytes, fitted, headBytes, checkedReports, checkedReport, reportsBytes, reportsWritten}
+use Rattle.report.specs.Writing.{allFit, bodyBytes, counts, errorBytes, errorsBytes, fitted, headBytes, checkedReports, checkedReport, reportsBytes, reportsWritten, returnWritten}
+use Rattle.statistics.specs.StatisticBytes.{statisticsBytes, statisticsPart}
+use Rattle.statistics.specs.StatisticChecks.{checkedStatistics}
 use Rattle.route.specs.Mirrors.{bestMirror, efficiencyOf}
 use Rattle.route.specs.Routes.{grantIn, grantWithLayout, layoutIn, mirrorsNamed, pieceAt, routed, served}
 use Rattle.route.specs.Stripes.{pieceLength, stripeOf, unitRest}
 use Rattle.segments.specs.Segments.{anyBelow, anyNames, inFront, inEntries, isNamed, scan, segmentsOf, withByte}
 use Rattle.server.specs.Servers.{handlesAt, serverHeadAt, serverAt}
 use Rattle.store.specs.Store.{bodyIn, kindIn, lengthIn, slotBytes, storeOf}
-use Rattle.xdr.specs.Items.{bytesAt, countAt, numAt, opaqueAt}
+use Rattle.xdr.specs.Items.{bytesAt, countAt, numAt, opaqueAt, rangeAt}
 use Rattle.xdr.specs.Parsed.{asItem, manyAt, then, whole}
 use Rattle.examples.specs.Examples.{Example, Events, NoReport, Range, Write, ExampleHolds, examples}
 
@@ -59,7 +61,7 @@ all-in-full (Range offset len last ∷ xs) s h = (h .0, all-in-full xs s (h .1))
 all-in-full (NoReport bytes ∷ xs) s h = (h .0, all-in-full xs s (h .1))
 
 examples-short : Each HoldsShort examples
-unfolding given pick grantIomodeOf iomodeOf padded rangeLast requestLast frontAt layoutAt layoutBody mirrorAt mirrorsAt rows startAt startsOf tailAt unitFits frameAt layout4 layout4At rangeAt beAt beBytes beFrom beValue leAt leBytes leValue sameBytes bodyOf grantBytes servers act afterAt answerTo answers anyByte covers grantCommand ifNamed inLowest inSlots meets modelAfter noneEmpty readCommand rangeCommand run segmentsIn slotOf tooMany verdict allBlank apart apartFromNext inOrder isFit allDistinct segmentsSound slotSound slotsFrom slotsIn slotsSound sound errorFits allFit bodyBytes bodyWritten counts errorBytes errorsBytes fitted headBytes checkedReports checkedReport reportsBytes reportsWritten best bestMirror efficiencyOf grantIn grantWithLayout layoutIn mirrorsNamed pieceAt routed served pieceLength stripeOf unitRest anyBelow anyNames inFront inEntries isNamed scan segmentsOf withByte handlesAt serverHeadAt serverAt bodyIn kindIn lengthIn slotBytes storeOf allZero bytesAt countAt numAt opaqueAt asItem manyAt then whole
+unfolding given pick grantIomodeOf iomodeOf padded rangeLast requestLast frontAt layoutAt layoutBody mirrorAt mirrorsAt rows startAt startsOf tailAt unitFits frameAt layout4 layout4At rangeAt beAt beBytes beFrom beValue leAt leBytes leValue sameBytes bodyOf grantBytes servers act afterAt answerTo answers anyByte covers grantCommand ifNamed inLowest inSlots meets modelAfter noneEmpty readCommand rangeCommand run segmentsIn slotOf tooMany verdict allBlank apart apartFromNext inOrder isFit allDistinct segmentsSound slotSound slotsFrom slotsIn slotsSound sound errorFits allFit bodyBytes counts errorBytes errorsBytes fitted headBytes checkedReports checkedReport reportsBytes reportsWritten returnWritten checkedStatistics statisticsBytes statisticsPart best bestMirror efficiencyOf grantIn grantWithLayout layoutIn mirrorsNamed pieceAt routed served pieceLength stripeOf unitRest anyBelow anyNames inFront inEntries isNamed scan segmentsOf withByte handlesAt serverHeadAt serverAt bodyIn kindIn lengthIn slotBytes storeOf allZero bytesAt countAt numAt opaqueAt asItem manyAt then whole
 examples-short = (refl, (refl, (refl, (refl, (refl, (refl, ((refl, refl, refl), ((refl, refl, refl), ((refl, refl, refl), ((refl, refl, refl), (refl, (refl, ((refl, refl, refl), (refl, tt))))))))))))))
 
 examples-stay : stayShort examples ≡ true

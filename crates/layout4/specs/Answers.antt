@@ -9,19 +9,12 @@ use Rattle.base.specs.Refusals.{faultNumber}
 use Rattle.base.specs.declared.refusal.Fault.{Fault}
 use Rattle.xdr.specs.Parsed.{Parsed, ok, fault}
 use Rattle.layout4.specs.Layout4s.{WholeLayout}
-use Rattle.layout4.specs.declared.frame.Range.{Range}
-use Rattle.layout4.specs.declared.frame.ReadRange.{ReadRange}
-use Rattle.layout4.specs.declared.frame.ReadRange.the-variants as range
 use Rattle.layout4.specs.declared.frame.Frame.{Frame}
 use Rattle.layout4.specs.declared.frame.ReadFrame.{ReadFrame}
 use Rattle.layout4.specs.declared.frame.ReadFrame.the-variants as frame
 use Rattle.layout4.specs.declared.whole.Layout4Answer.{Layout4Answer}
 use Rattle.layout4.specs.declared.whole.Layout4Answer.the-variants as layout4
 use Rattle.layout4.specs.declared.whole.Layout4Read.{Layout4Read}
-
-abbrev pub parsedOfRange : ReadRange → Parsed Range
-parsedOfRange (range.Value v c) = ok v (c .at)
-parsedOfRange (range.Refused e) = fault (faultNumber e)
 
 abbrev pub parsedOfFrame : ReadFrame → Parsed Frame
 parsedOfFrame (frame.Value v c) = ok v (c .at)

@@ -6,24 +6,15 @@ use lib.Dec.{leb, eqb}
 use Rattle.base.specs.Limits.{longestBody}
 use Rattle.base.specs.Answer.{Answer, pick}
 use Rattle.base.specs.Iomodes.{grantIomodeOf}
-use Rattle.base.specs.Ranges.{rangeLast}
 use Rattle.bytes.specs.Numbers.{bytesFrom}
 use Rattle.xdr.specs.Parsed.{Parsed, ok, fault, then, asItem, whole}
-use Rattle.xdr.specs.Items.{bytesAt, countAt, numAt, padding}
+use Rattle.xdr.specs.Items.{bytesAt, countAt, numAt, padding, rangeAt}
 use Rattle.layout.specs.Layouts.{Layout, layoutBody}
-use Rattle.layout4.specs.declared.frame.Range.{Range}
 use Rattle.layout4.specs.declared.frame.Frame.{Frame}
 use Rattle.layout4.specs.declared.whole.Layout4.{Layout4}
 
--- "Length is checked before iomode": the range is judged when both its numbers are read
-unfoldable pub rangeAt : List ℕ → ℕ → Parsed Range
-rangeAt s at =
-    then (numAt 8 s at) λ offset p1.
-    then (numAt 8 s p1) λ len p2.
-    then (asItem (rangeLast offset len) p2) λ last p3.
-    ok (record { offset = offset; length = len; last = last }) p3
-
--- "A body length above 4,090 is refused as 8"
+-- "Length is checked before iomode": the range is judged when both its numbers are read. "A body length above 4,090
+-- is refused as 8"
 unfoldable pub frameAt : List ℕ → ℕ → Parsed Frame
 frameAt s at =
     then (rangeAt s at) λ range p1.

@@ -1,9 +1,8 @@
 -- What holds of an event whose own bytes and numbers are accepted: the granted body, and the range.
-use Prim.Native.Nat.{ℕ, suc, _+_, _-_, _*_, _^_, _≤_, _<_}
-use mathlib.Core.Path.{_≡_, refl, sym, ap, ap₂, _∙_}
+use Prim.Native.Nat.{ℕ, _+_, _-_, _^_, _≤_, _<_}
+use mathlib.Core.Path.{_≡_, refl, sym, ap, _∙_}
 use mathlib.Core.Bool.{Bool, true, false}
-use mathlib.Core.List.{List, [], _∷_}
-use native.Mathlib.Nat.{pow-suc, mul-le-mul-right}
+use mathlib.Core.List.{List}
 use native.Mathlib.Omega.{arith}
 use borrow.Author.Tests.{leb-true}
 use lib.Dec.{eqb, leb}
@@ -13,13 +12,13 @@ use Rattle.base.specs.Iomodes.{iomodeOf}
 use Rattle.base.specs.Ranges.{lastByte, largestSum, rangeLast, requestLast, toTheEnd}
 use Rattle.base.specs.declared.iomode.Iomode.{Iomode}
 use Rattle.base.proofs.AnswerLaws.{given-inv, never-accepted, same-answer}
-use Rattle.bytes.specs.Numbers.{AllBytes, beBytes, beValue, bytesFrom}
-use Rattle.bytes.proofs.NumberLaws.{be-append, be-round, be-snoc, dropped-bytes, length-bytes, taken-bytes}
+use Rattle.bytes.specs.Numbers.{beValue, bytesFrom}
+use Rattle.bytes.proofs.NumberLaws.{be-small, dropped-bytes, length-bytes, taken-bytes}
 use Rattle.xdr.specs.Parsed.{ok}
-use Rattle.xdr.proofs.Accepted.{bytes-read, count-read, item-accepted, number-read, pick-inv, then-inv, same-value, whole-read}
+use Rattle.xdr.proofs.Accepted.{bytes-read, count-read, item-accepted, number-read, pick-inv, range-read, then-inv, same-value, whole-read}
 use Rattle.layout.specs.Layouts.{layoutBody}
-use Rattle.layout4.specs.Layout4s.{WholeLayout, frameAt, layout4, layout4At, rangeAt}
-use Rattle.layout4.specs.declared.frame.Range.{Range}
+use Rattle.layout4.specs.Layout4s.{WholeLayout, frameAt, layout4, layout4At}
+use Rattle.xdr.specs.declared.range.Range.{Range}
 use Rattle.layout4.specs.declared.frame.Frame.{Frame}
 use Rattle.model.specs.Model.{Action, returns, recalls, Event, Grant, Return, Recall, Revoke, Command, grantCommand, readCommand, rangeCommand}
 use Rattle.base.specs.Answer.{isAccepted}
@@ -44,22 +43,6 @@ range-ends offset len last h e = go (eqb len toTheEnd) (leb 1 len) (leb (offset 
     go false true false j k f = never-accepted 5 last f
     go false false w j k f = never-accepted 5 last f
 
--- ---- bytes
-
-pub be-small : (bs : List ℕ) → AllBytes bs → beValue bs < 256 ^ length bs
-unfolding beBytes
-be-small [] h = let z : beValue [] ≡ 0 = be-round 0 0 (omega arith) in omega arith
-be-small (b ∷ bs) h =
-    let P = 256 ^ length bs in
-    let k : beValue bs < P = be-small bs (λ i. h (suc i)) in
-    let c : b < 256 = h 0 in
-    let z : beValue [] ≡ 0 = be-round 0 0 (omega arith) in
-    let d : beValue (b ∷ []) ≡ b = be-snoc [] b ∙ omega arith in
-    let m : b * P ≤ 255 * P = mul-le-mul-right P (omega arith) in
-    let e : beValue (b ∷ bs) ≡ b * P + beValue bs = be-append (b ∷ []) bs ∙ ap (λ (n : ℕ). n * P + beValue bs) d in
-    let q : 256 ^ suc (length bs) ≡ P * 256 = pow-suc 256 (length bs) in
-    omega arith
-
 -- ---- an accepted layout4
 
 pub record Read4 (s : List ℕ) (w : WholeLayout) : Type 0 where
@@ -70,30 +53,13 @@ pub record Read4 (s : List ℕ) (w : WholeLayout) : Type 0 where
   pub eight : 8 ≤ length s
   pub range : rangeLast (w .frame .offset) (w .frame .length) ≡ accepted (w .frame .last)
 
-range-read : (s : List ℕ) (at : ℕ) (r : Range) (p : ℕ) → rangeAt s at ≡ ok r p
-    → (r .offset ≡ beValue (bytesFrom 8 s at)) × (at + 8 ≤ length s) × (rangeLast (r .offset) (r .length) ≡ accepted (r .last))
-unfolding rangeAt
-range-read s at r p h =
-    let a = then-inv _ _ r p h in
-    let n = number-read 8 s at (a .item) (a .next) (a .first) in
-    let b = then-inv _ _ r p (a .rest) in
-    let c = then-inv _ _ r p (b .rest) in
-    let l = item-accepted (rangeLast (a .item) (b .item)) (b .next) (c .item) (c .next) (c .first) in
-    let e : record { offset = a .item; length = b .item; last = c .item } ≡ r = same-value (c .rest) in
-    let eo : a .item ≡ r .offset = ap (λ (x : Range). x .offset) e in
-    let el : b .item ≡ r .length = ap (λ (x : Range). x .length) e in
-    let em : c .item ≡ r .last = ap (λ (x : Range). x .last) e in (
-      sym eo ∙ n .value,
-      omega (arith, n .end, n .within),
-      sym (ap₂ rangeLast eo el) ∙ (l .0 ∙ ap accepted em),
-    )
-
 frame-read : (s : List ℕ) (at : ℕ) (f : Frame) (p : ℕ) → frameAt s at ≡ ok f p
     → (f .range .offset ≡ beValue (bytesFrom 8 s at)) × (at + 8 ≤ length s) × (rangeLast (f .range .offset) (f .range .length) ≡ accepted (f .range .last)) × (f .size ≤ 4090)
 unfolding frameAt
 frame-read s at f p h =
     let a = then-inv _ _ f p h in
     let r = range-read s at (a .item) (a .next) (a .first) in
+    let o = number-read 8 s at (a .item .offset) (at + 8) (r .offset) in
     let b = then-inv _ _ f p (a .rest) in
     let c = then-inv _ _ f p (b .rest) in
     let d = then-inv _ _ f p (c .rest) in
@@ -103,9 +69,9 @@ frame-read s at f p h =
     let e : record { range = a .item; iomode = c .item; size = k .item } ≡ f = same-value (k .rest) in
     let er : a .item ≡ f .range = ap (λ (x : Frame). x .range) e in
     let es : k .item ≡ f .size = ap (λ (x : Frame). x .size) e in (
-      ap (λ (x : Range). x .offset) (sym er) ∙ r .0,
-      r .1,
-      rw (← er) (r .2),
+      ap (λ (x : Range). x .offset) (sym er) ∙ o .value,
+      o .within,
+      rw (← er) (r .last),
       omega (arith, n .high),
     )
 

@@ -13,10 +13,10 @@ use Rattle.base.specs.Ranges.{lastByte, rangeLast, requestLast}
 use Rattle.base.proofs.AnswerLaws.{both}
 use Rattle.bytes.specs.Numbers.{allZero, beBytes, beFrom, beValue, sameBytes}
 use Rattle.xdr.specs.Parsed.{asItem, manyAt, then, whole}
-use Rattle.xdr.specs.Items.{bytesAt, countAt, numAt, opaqueAt}
+use Rattle.xdr.specs.Items.{bytesAt, countAt, numAt, opaqueAt, rangeAt}
 use Rattle.server.specs.Servers.{handlesAt, serverHeadAt, serverAt}
 use Rattle.layout.specs.Layouts.{frontAt, layoutAt, layoutBody, mirrorsAt, tailAt, unitFits}
-use Rattle.layout4.specs.Layout4s.{frameAt, layout4, layout4At, rangeAt}
+use Rattle.layout4.specs.Layout4s.{frameAt, layout4, layout4At}
 use Rattle.segments.specs.Segments.{READ, RW, anyBelow, inFront, scan, segmentsOf, withByte}
 use Rattle.model.specs.Model.{act, afterAt, answerTo, answers, anyByte, rightsAndSlots, covers, grantCommand, ifNamed, inLowest, inSlots, meets, modelAfter, noneEmpty, readCommand, rangeCommand, run, segmentsIn, slotOf, start, tooMany, verdict}
 use Rattle.model.specs.Cases.{Case, CaseHolds, bodyOf, cases, grantBytes, servers}

@@ -14,10 +14,10 @@ use Rattle.base.specs.Ranges.{lastByte, rangeLast, requestLast, toTheEnd}
 use Rattle.base.specs.declared.iomode.Iomode.the-variants.{Any, ReadWrite}
 use Rattle.bytes.specs.Numbers.{allZero, AllBytes, beBytes, beFrom, beValue}
 use Rattle.xdr.specs.Parsed.{asItem, manyAt, then, whole}
-use Rattle.xdr.specs.Items.{bytesAt, countAt, numAt, opaqueAt}
+use Rattle.xdr.specs.Items.{bytesAt, countAt, numAt, opaqueAt, rangeAt}
 use Rattle.server.specs.Servers.{handlesAt, serverHeadAt, serverAt}
 use Rattle.layout.specs.Layouts.{frontAt, layoutAt, layoutBody, mirrorsAt, tailAt, unitFits}
-use Rattle.layout4.specs.Layout4s.{frameAt, layout4, layout4At, rangeAt}
+use Rattle.layout4.specs.Layout4s.{frameAt, layout4, layout4At}
 use Rattle.segments.specs.declared.Table.{Table}
 use Rattle.segments.specs.Segments.{Mode, READ, RW, anyBelow, emptyTable, inEntries, rightAt, segmentsOf}
 use Rattle.segments.proofs.Canon.{Below, Canon, at-in, at-none, granted-some}

@@ -4,13 +4,12 @@ use mathlib.Core.Path.{_≡_, refl, ap}
 use mathlib.Core.List.{List, [], _∷_, _++_}
 use mathlib.Core.Bool.{Bool, true, _&&_}
 use native.Mathlib.Omega.{arith}
-use native.Mathlib.Numerals.{add-one}
 use borrow.Author.Tests.{leb-true}
 use lib.Dec.{leb}
 use lib.ListN.{length, take, drop, getD}
-use lib.Seq.{drop-cons}
 use Rattle.base.specs.Answer.{accepted, given}
 use Rattle.base.specs.Ranges.{rangeLast}
+use Rattle.base.proofs.ListLaws.{taken-next}
 use Rattle.base.proofs.AnswerLaws.{both, given-inv, pick-accepted}
 use Rattle.bytes.specs.Numbers.{beAt}
 use Rattle.report.specs.Reports.{errorFits}
@@ -23,17 +22,10 @@ noHead = record { offset = 0; length = 0; stateid = []; errors = 0 }
 
 -- ---- one head after the other
 
-pub next-head : (hs : List ReportHead) (i m : ℕ) → i < length hs → 0 < m
-    → take m (drop i hs) ≡ getD hs i noHead ∷ take (m - 1) (drop (i + 1) hs)
-next-head hs i zero h k = absurd (omega arith)
-next-head hs i (suc m) h k =
-    let e : suc m - 1 ≡ m = omega arith in
-    rw (e, add-one i, drop-cons hs i noHead h)
-
 pub counts-next : (hs : List ReportHead) (i m : ℕ) → i < length hs → 0 < m
     → counts (take m (drop i hs)) ≡ getD hs i noHead .errors + counts (take (m - 1) (drop (i + 1) hs))
 unfolding counts
-counts-next hs i m h k = rw (next-head hs i m h k)
+counts-next hs i m h k = rw (taken-next hs noHead i m h k)
 
 pub counts-none : (hs : List ReportHead) (i m : ℕ) → m ≡ 0 → counts (take m (drop i hs)) ≡ 0
 unfolding counts
@@ -90,7 +82,7 @@ pub checked-next : (hs : List ReportHead) (i m : ℕ) (s : List ℕ) (at : ℕ) 
 unfolding checkedReports counts
 checked-next hs i m s at h n =
     let c = counts (take (m - 1) (drop (i + 1) hs)) in
-    rw (next-head hs i m h n, take-entries (getD hs i noHead .errors) c s at, drop-entries (getD hs i noHead .errors) c s at)
+    rw (taken-next hs noHead i m h n, take-entries (getD hs i noHead .errors) c s at, drop-entries (getD hs i noHead .errors) c s at)
 
 pub checked-none : (hs : List ReportHead) (i m : ℕ) (es : List ErrorEntry) → m ≡ 0 → checkedReports (take m (drop i hs)) es ≡ accepted tt
 unfolding checkedReports
@@ -103,7 +95,7 @@ pub reports-next : (hs : List ReportHead) (i m : ℕ) (s : List ℕ) (at : ℕ) 
 unfolding reportsBytes counts
 reports-next hs i m s at h n =
     let c = counts (take (m - 1) (drop (i + 1) hs)) in
-    rw (next-head hs i m h n, take-entries (getD hs i noHead .errors) c s at, drop-entries (getD hs i noHead .errors) c s at)
+    rw (taken-next hs noHead i m h n, take-entries (getD hs i noHead .errors) c s at, drop-entries (getD hs i noHead .errors) c s at)
 
 pub reports-none : (hs : List ReportHead) (i m : ℕ) (es : List ErrorEntry) → m ≡ 0 → reportsBytes (take m (drop i hs)) es ≡ []
 unfolding reportsBytes

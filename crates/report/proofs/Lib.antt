@@ -3,4 +3,5 @@ pub mod EntryLaws
 pub mod StoringLaws
 pub mod Written
 pub mod ReadBack
-pub mod ReportRoundTrip
+pub mod ReturnRoundTrip
+pub mod ReturnLaws

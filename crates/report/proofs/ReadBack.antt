@@ -12,12 +12,13 @@ use Rattle.base.specs.Ranges.{rangeLast}
 use Rattle.bytes.specs.Numbers.{AllBytes, beAt, beBytes, bytesFrom}
 use Rattle.bytes.proofs.NumberLaws.{length-be, length-bytes}
 use Rattle.bytes.proofs.BytesAtLaws.{bytes-are, BytesAt, bytes-at-join}
-use Rattle.xdr.specs.Items.{bytesAt, countAt, numAt}
-use Rattle.xdr.specs.Parsed.{ok, asItem, manyAt}
+use Rattle.xdr.specs.Items.{bytesAt, countAt, numAt, rangeAt}
+use Rattle.xdr.specs.Parsed.{ok, manyAt}
 use Rattle.xdr.specs.declared.Part.{Part}
+use Rattle.xdr.specs.declared.range.Range.{Range}
 use Rattle.xdr.proofs.ItemLaws.{num-there}
-use Rattle.xdr.proofs.Accepted.{bytes-read, count-read, item-accepted, number-read, pick-inv, then-inv, same-value, same-offset}
-use Rattle.xdr.proofs.ItemsAtLaws.{num-back}
+use Rattle.xdr.proofs.Accepted.{bytes-read, count-read, moved, number-read, pick-inv, range-read, then-inv, same-value, same-offset}
+use Rattle.xdr.proofs.ItemsAtLaws.{bytes-span, number-spans, spans-join}
 use Rattle.report.specs.Reports.{errorAt, errorFits, reportHeadAt, Report, reportAt}
 use Rattle.report.specs.declared.ErrorItem.{ErrorItem}
 use Rattle.report.specs.declared.ReportHead.{ReportHead}
@@ -103,54 +104,44 @@ pub record HeadBack (h : ReportHead) (s : List ℕ) (at p : ℕ) : Type 0 where
 abbrev headWith : ℕ → ℕ → List ℕ → ℕ → ReportHead
 headWith offset len stateid errors = record { offset = offset; length = len; stateid = stateid; errors = errors }
 
-head-parts : (s : List ℕ) (at o p1 l p2 x p3 : ℕ) (st : Part) (p4 n p5 : ℕ) → AllBytes s → numAt 8 s at ≡ ok o p1 → numAt 8 s p1 ≡ ok l p2
-    → asItem (rangeLast o l) p2 ≡ ok x p3 → bytesAt 16 s p3 ≡ ok st p4 → countAt 1 16 s p4 ≡ ok n p5
-    → HeadBack (headWith o l (bytesFrom 16 s (st .start)) n) s at p5
+head-parts : (s : List ℕ) (at : ℕ) (v : Range) (p1 : ℕ) (st : Part) (p2 n p3 : ℕ) → AllBytes s → rangeAt s at ≡ ok v p1
+    → bytesAt 16 s p1 ≡ ok st p2 → countAt 1 16 s p2 ≡ ok n p3
+    → HeadBack (headWith (v .offset) (v .length) (bytesFrom 16 s (st .start)) n) s at p3
 unfolding headBytes
-head-parts s at o p1 l p2 x p3 st p4 n p5 b f g h i j =
-    let f' = number-read 8 s at o p1 f in
-    let g' = number-read 8 s p1 l p2 g in
-    let h' = item-accepted (rangeLast o l) p2 x p3 h in
-    let i' = bytes-read 16 s p3 st p4 i in
-    let j' = count-read 1 16 s p4 n p5 j in
-    let k = j' .number in
-    let begin : st .start ≡ at + 16 = ap (λ (q : Part). q .start) (i' .value) ∙ omega (arith, f' .end, g' .end, h' .1) in
-    let e1 : p1 ≡ at + 8 = f' .end in
-    let e4 : p4 ≡ at + 32 = omega (arith, f' .end, g' .end, h' .1, i' .end) in
+head-parts s at v p1 st p2 n p3 b f i j =
+    let o = beBytes 8 (v .offset) in
+    let l = beBytes 8 (v .length) in
     let z = bytesFrom 16 s (st .start) in
-    let r : st .start + 16 ≤ length s = omega (arith, begin, e4, k .end, k .within) in
-    let z16 : length z ≡ 16 = length-bytes 16 s (st .start) r in
-    let zs : BytesAt z s (at + 16) = rw begin (bytes-are 16 s (at + 16) (omega (arith, r, begin))) in
-    let o8 = length-be 8 o in
-    let l8 = length-be 8 l in
-    let os = num-back 8 s at o p1 b f' in
-    let ls : BytesAt (beBytes 8 l) s (at + 8) = rw e1 at (num-back 8 s p1 l p2 b g') in
-    let ns : BytesAt (beBytes 4 n) s (at + 32) = rw e4 at (num-back 4 s p4 n p5 b k) in
+    let e = beBytes 4 n in
+    let r = range-read s at v p1 f in
+    let j' = count-read 1 16 s p2 n p3 j in
+    let zs = bytes-span 16 s p1 st p2 refl i in
+    let es = number-spans 4 s p2 n p3 b (j' .read) in
+    let os = number-spans 8 s at (v .offset) (at + 8) b (r .offset) in
+    let ls = number-spans 8 s (at + 8) (v .length) p1 b (r .len) in
+    let all = spans-join o (l ++ (z ++ e)) s at (at + 8) p3 os (spans-join l (z ++ e) s (at + 8) p1 p3 ls (spans-join z e s p1 p2 p3 zs es)) in
+    let i' = bytes-read 16 s p1 st p2 i in
+    let begin = ap (λ (q : Part). q .start) (i' .value) in
+    let z16 : length z ≡ 16 = length-bytes 16 s (st .start) (omega (arith, begin, i' .end, i' .within)) in
+    let size = length-head (headWith (v .offset) (v .length) z n) z16 in
     record {
-      stands = bytes-at-join (beBytes 8 o) (beBytes 8 l ++ (z ++ beBytes 4 n)) s at (at + 8) (omega (arith, o8)) os
-          (bytes-at-join (beBytes 8 l) (z ++ beBytes 4 n) s (at + 8) (at + 16) (omega (arith, l8)) ls
-          (bytes-at-join z (beBytes 4 n) s (at + 16) (at + 32) (omega (arith, z16)) zs ns));
-      size = length-head (headWith o l z n) z16;
-      offset = omega (arith, e4, k .end);
-      last = x;
-      range = h' .0;
+      stands = all .stands;
+      size = size;
+      offset = all .end ∙ ap (λ (k : ℕ). at + k) size;
+      last = v .last;
+      range = r .last;
       some = j' .low;
       few = j' .high;
     }
 
-moved : (s : List ℕ) (at : ℕ) (h h' : ReportHead) (p p' : ℕ) → ok h p ≡ ok h' p' → HeadBack h s at p → HeadBack h' s at p'
-moved s at h h' p p' e x = rw (← same-value e, ← same-offset e) x
-
 pub head-back : (s : List ℕ) (at : ℕ) (h : ReportHead) (p : ℕ) → AllBytes s → reportHeadAt s at ≡ ok h p → HeadBack h s at p
 unfolding reportHeadAt
 head-back s at h p b e =
-    let o = then-inv _ _ _ _ e in
-    let l = then-inv _ _ _ _ (o .rest) in
-    let x = then-inv _ _ _ _ (l .rest) in
-    let t = then-inv _ _ _ _ (x .rest) in
+    let r = then-inv _ _ _ _ e in
+    let t = then-inv _ _ _ _ (r .rest) in
     let n = then-inv _ _ _ _ (t .rest) in
-    moved s at _ h _ p (n .rest)
-    (head-parts s at (o .item) (o .next) (l .item) (l .next) (x .item) (x .next) (t .item) (t .next) (n .item) (n .next) b (o .first) (l .first) (x .first) (t .first) (n .first))
+    moved (λ x q. HeadBack x s at q) _ h _ p (n .rest)
+    (head-parts s at (r .item) (r .next) (t .item) (t .next) (n .item) (n .next) b (r .first) (t .first) (n .first))
 
 -- ---- reports
 

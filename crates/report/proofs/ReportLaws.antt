@@ -3,10 +3,12 @@ use Prim.Native.Nat.{ℕ, _+_, _-_, _≤_, _<_}
 use mathlib.Core.Path.{_≡_, refl, sym, ap, _∙_}
 use mathlib.Core.List.{List, [], _∷_, _++_, append-nil, map, map-append}
 use native.Mathlib.Omega.{arith}
-use borrow.Author.Tests.{eq-eqb}
+use borrow.Author.Tests.{eq-eqb, ne-eqb}
 use lib.ListN.{length, set, length-map, length-take, length-drop}
 use lib.Seq.{append-snoc}
 use Rattle.base.specs.Answer.{Answer, accepted, refused, given, pick}
+use Rattle.base.specs.Lists.{lengthOf, membersIn}
+use Rattle.base.proofs.AnswerLaws.{given-inv, same-answer}
 use Rattle.base.proofs.ListLaws.{padded-next}
 use Rattle.bytes.specs.Numbers.{bytesFrom}
 use Rattle.bytes.proofs.NumberLaws.{length-bytes}
@@ -16,8 +18,10 @@ use Rattle.xdr.specs.declared.Part.{Part}
 use Rattle.xdr.proofs.Accepted.{bytes-read, then-inv, same-value, same-offset}
 use Rattle.xdr.proofs.EndLaws.{end-goes-on}
 use Rattle.xdr.proofs.ManyLaws.{first-then, none-then, refused-then}
-use Rattle.report.specs.Reports.{errorAt, reportHeadAt, Report, reportAt, reportBody, reportsAt}
-use Rattle.report.specs.Answers.{arraysFrom, blankHead, countOf, headFrom, headsOf, offsetsOf, reportsIn}
+use Rattle.statistics.specs.Statistics.{statisticsAt}
+use Rattle.statistics.specs.declared.Statistic.{Statistic}
+use Rattle.report.specs.Reports.{LayoutReturn, errorAt, reportHeadAt, Report, reportAt, reportBody, reportsAt, returnBody, statisticsBody}
+use Rattle.report.specs.Answers.{arraysFrom, blankHead, statisticEntries, headFrom, headsOf, offsetsOf}
 use Rattle.report.specs.declared.ReportHead.{ReportHead}
 use Rattle.report.specs.declared.head.HeadItem.{HeadItem}
 
@@ -100,34 +104,71 @@ arrays-ok (fault k) n hs ps p h = let z : _≡_ {A = ℕ} 0 1 = cc in absurd (om
 
 pub answer-refused : (b : Answer (List Report)) (n : ℕ) (a : Answer ℕ) (hs : List ReportHead) (ps : List ℕ) → b ≡ refused n
     → (a ≡ refused n) × (hs ≡ headsOf []) × (ps ≡ offsetsOf [])
-    → (a ≡ countOf b) × (hs ≡ headsOf (reportsIn b)) × (ps ≡ offsetsOf (reportsIn b))
-unfolding countOf given
+    → (a ≡ lengthOf b) × (hs ≡ headsOf (membersIn b)) × (ps ≡ offsetsOf (membersIn b))
+unfolding lengthOf given
 answer-refused b n a hs ps e k = rw e k
 
 pub answer-accepted : (b : Answer (List Report)) (rs : List Report) (a : Answer ℕ) (hs : List ReportHead) (ps : List ℕ) → b ≡ accepted rs
     → (a ≡ accepted (length rs)) × (hs ≡ headsOf rs) × (ps ≡ offsetsOf rs)
-    → (a ≡ countOf b) × (hs ≡ headsOf (reportsIn b)) × (ps ≡ offsetsOf (reportsIn b))
-unfolding countOf given
+    → (a ≡ lengthOf b) × (hs ≡ headsOf (membersIn b)) × (ps ≡ offsetsOf (membersIn b))
+unfolding lengthOf given
 answer-accepted b rs a hs ps e k = rw e k
 
--- the body by the offset where its statistics end
-pub body-ends : (s : List ℕ) → reportBody s ≡ whole s (then (reportsAt s 0) λ rs q. then (endOf (countAt 0 0 s q)) λ u z. ok rs z)
-unfolding reportBody then
-body-ends s = go (reportsAt s 0) where
-  go : (x : Parsed (List Report))
-      → whole s (then x λ rs q. then (countAt 0 0 s q) λ k z. ok rs z)
-      ≡ whole s (then x λ rs q. then (endOf (countAt 0 0 s q)) λ u z. ok rs z)
-  go (ok rs q) = ap (whole s) (sym (end-goes-on (countAt 0 0 s q) (λ z. ok rs z)))
-  go (fault n) = refl
+pub statistics-answer-refused : (b : Answer (List Statistic)) (n : ℕ) (a : Answer ℕ) (es : List Statistic) → b ≡ refused n
+    → (a ≡ refused n) × (es ≡ statisticEntries []) → (a ≡ lengthOf b) × (es ≡ statisticEntries (membersIn b))
+unfolding lengthOf given
+statistics-answer-refused b n a es e k = rw e k
 
--- the parts of an accepted body
+pub statistics-answer-accepted : (b : Answer (List Statistic)) (rs : List Statistic) (a : Answer ℕ) (es : List Statistic) → b ≡ accepted rs
+    → (a ≡ accepted (length rs)) × (es ≡ statisticEntries rs) → (a ≡ lengthOf b) × (es ≡ statisticEntries (membersIn b))
+unfolding lengthOf given
+statistics-answer-accepted b rs a es e k = rw e k
+
+-- ---- the body by its two halves
+
 pub reports-accepted : (s : List ℕ) (at n p : ℕ) (rs : List Report) (q : ℕ) → countAt 0 8 s at ≡ ok n p → manyAt reportAt n s p ≡ ok rs q → reportsAt s at ≡ ok rs q
 unfolding reportsAt then
 reports-accepted s at n p rs q a b = rw (a, b)
 
-pub body-accepted : (s : List ℕ) (rs : List Report) (q z : ℕ) → reportsAt s 0 ≡ ok rs q → endOf (countAt 0 0 s q) ≡ ok tt z → z ≡ length s → reportBody s ≡ accepted rs
-unfolding then whole pick
-body-accepted s rs q z a b c = rw (body-ends s, a, b, eq-eqb z (length s) c)
+module _ (s : List ℕ) where
+  pub reports-refuse : (n : ℕ) → reportsAt s 0 ≡ fault n → returnBody s ≡ refused n
+  unfolding returnBody then whole
+  reports-refuse n e = rw e
+
+  pub statistics-refuse : (rs : List Report) (q n : ℕ) → reportsAt s 0 ≡ ok rs q → statisticsAt s q ≡ fault n → returnBody s ≡ refused n
+  unfolding returnBody then whole
+  statistics-refuse rs q n e f = rw (e, f)
+
+  module _ (rs : List Report) (q : ℕ) (st : List Statistic) (z : ℕ) (e : reportsAt s 0 ≡ ok rs q) (f : statisticsAt s q ≡ ok st z) where
+    pub bytes-left-over : (z ≡ length s → ⊥) → returnBody s ≡ refused 2
+    unfolding returnBody then whole pick
+    bytes-left-over h = rw (e, f, ne-eqb z (length s) h)
+
+    pub body-accepted : z ≡ length s → returnBody s ≡ accepted (record { reports = rs; statistics = st })
+    unfolding returnBody then whole pick
+    body-accepted h = rw (e, f, eq-eqb z (length s) h)
+
+-- each half alone
+pub reports-of-refused : (s : List ℕ) (n : ℕ) → returnBody s ≡ refused n → reportBody s ≡ refused n
+unfolding reportBody given
+reports-of-refused s n e = rw e
+
+pub reports-of : (s : List ℕ) (r : LayoutReturn) → returnBody s ≡ accepted r → reportBody s ≡ accepted (r .reports)
+unfolding reportBody given
+reports-of s r e = rw e
+
+pub statistics-of-refused : (s : List ℕ) (n : ℕ) → returnBody s ≡ refused n → statisticsBody s ≡ refused n
+unfolding statisticsBody given
+statistics-of-refused s n e = rw e
+
+pub statistics-of : (s : List ℕ) (r : LayoutReturn) → returnBody s ≡ accepted r → statisticsBody s ≡ accepted (r .statistics)
+unfolding statisticsBody given
+statistics-of s r e = rw e
+
+-- both halves where one is accepted
+pub return-of-reports : (s : List ℕ) (rs : List Report) → reportBody s ≡ accepted rs → (r : LayoutReturn) × (returnBody s ≡ accepted r) × (r .reports ≡ rs)
+unfolding reportBody
+return-of-reports s rs e = let a = given-inv _ _ _ e in (a .value, a .first, same-answer (a .rest))
 
 -- ---- an accepted report has a stateid of 16 bytes
 
@@ -135,9 +176,7 @@ pub head-stateid : (s : List ℕ) (at : ℕ) (h : ReportHead) (p : ℕ) → repo
 unfolding reportHeadAt
 head-stateid s at h p e =
     let a = then-inv _ _ _ _ e in
-    let b = then-inv _ _ _ _ (a .rest) in
-    let c = then-inv _ _ _ _ (b .rest) in
-    let d = then-inv _ _ _ _ (c .rest) in
+    let d = then-inv _ _ _ _ (a .rest) in
     let f = then-inv _ _ _ _ (d .rest) in
     let k : h .stateid ≡ bytesFrom 16 s (d .item .start) = ap (λ (x : ReportHead). x .stateid) (sym (same-value (f .rest))) in
     let w = bytes-read 16 s _ _ _ (d .first) in

@@ -20,7 +20,7 @@ use Rattle.bytes.proofs.StoredLaws.{fits-stored, length-stored, stored-then}
 use Rattle.report.specs.Reports.{errorFits}
 use Rattle.report.specs.declared.ReportHead.{ReportHead}
 use Rattle.report.specs.Writing.{outputAfter, allFit, bodyBytes, bodyWritten, counts, ErrorEntry, errorBytes, errorsBytes, fitted, headBytes, checkedReports, checkedReport, entryHere, entriesAt, reportsBytes, stateidsWhole}
-use Rattle.report.specs.WriteAnswers.{lengthOf}
+use Rattle.base.specs.Lists.{lengthOf}
 use Rattle.report.proofs.EntryLaws.{allowed, drop-entries, length-entries, take-entries}
 
 -- ---- how long each part is
@@ -225,28 +225,34 @@ pub written-accepted : (l m : List ℕ) (x : Answer (List ℕ)) (bs : List ℕ) 
 unfolding lengthOf outputAfter given
 written-accepted l m x bs size e s k = rw e (ap accepted s, k)
 
-pub many-refused : (count : ℕ) (heads : List ReportHead) (es : List ErrorEntry) (z : List ℕ) (room : ℕ) → 8 < count → bodyWritten count heads es z room ≡ refused 8
+pub many-refused : (count : ℕ) (heads : List ReportHead) (es : List ErrorEntry) (k : Answer (Unit {0})) (z : List ℕ) (room : ℕ) → 8 < count
+    → bodyWritten count heads es k z room ≡ refused 8
 unfolding bodyWritten pick
-many-refused count heads es z room h = rw (lt-leb _ _ h)
+many-refused count heads es k z room h = rw (lt-leb _ _ h)
 
-pub list-refused : (count : ℕ) (heads : List ReportHead) (n : ℕ) (errors z : List ℕ) (room : ℕ) → count ≤ 8
-    → (counts (take count heads) ≡ n → ⊥) → bodyWritten count heads (entriesAt n errors 0) z room ≡ refused 8
+pub list-refused : (count : ℕ) (heads : List ReportHead) (n : ℕ) (errors : List ℕ) (k : Answer (Unit {0})) (z : List ℕ) (room : ℕ) → count ≤ 8
+    → (counts (take count heads) ≡ n → ⊥) → bodyWritten count heads (entriesAt n errors 0) k z room ≡ refused 8
 unfolding bodyWritten pick
-list-refused count heads n errors z room h k = rw (le-leb _ _ h, length-entries n errors 0, ne-eqb _ _ k)
+list-refused count heads n errors k z room h e = rw (le-leb _ _ h, length-entries n errors 0, ne-eqb _ _ e)
 
-pub reports-refused : (count : ℕ) (heads : List ReportHead) (n : ℕ) (errors z : List ℕ) (room k : ℕ) → count ≤ 8 → n ≡ counts (take count heads)
-    → checkedReports (take count heads) (entriesAt (counts (take count heads)) errors 0) ≡ refused k
-    → bodyWritten count heads (entriesAt n errors 0) z room ≡ refused k
-unfolding bodyWritten pick given
-reports-refused count heads n errors z room k h q j =
-    rw (le-leb _ _ h, length-entries n errors 0, q, eq-eqb (counts (take count heads)) (counts (take count heads)) refl, j)
+module _ (count : ℕ) (heads : List ReportHead) (n : ℕ) (errors : List ℕ) (k : Answer (Unit {0})) (z : List ℕ) (room : ℕ) (h : count ≤ 8) (q : n ≡ counts (take count heads)) where
+  pub reports-refused : (m : ℕ) → checkedReports (take count heads) (entriesAt (counts (take count heads)) errors 0) ≡ refused m
+      → bodyWritten count heads (entriesAt n errors 0) k z room ≡ refused m
+  unfolding bodyWritten pick given
+  reports-refused m j =
+      rw (le-leb _ _ h, length-entries n errors 0, q, eq-eqb (counts (take count heads)) (counts (take count heads)) refl, j)
 
-pub reports-allowed : (count : ℕ) (heads : List ReportHead) (n : ℕ) (errors z : List ℕ) (room : ℕ) → count ≤ 8 → n ≡ counts (take count heads)
-    → checkedReports (take count heads) (entriesAt (counts (take count heads)) errors 0) ≡ accepted tt
-    → bodyWritten count heads (entriesAt n errors 0) z room ≡ fitted (bodyBytes (take count heads) (entriesAt (counts (take count heads)) errors 0) z) room
-unfolding bodyWritten pick given
-reports-allowed count heads n errors z room h q j =
-    rw (le-leb _ _ h, length-entries n errors 0, q, eq-eqb (counts (take count heads)) (counts (take count heads)) refl, j)
+  module _ (j : checkedReports (take count heads) (entriesAt (counts (take count heads)) errors 0) ≡ accepted tt) where
+    pub tail-refused : (m : ℕ) → k ≡ refused m → bodyWritten count heads (entriesAt n errors 0) k z room ≡ refused m
+    unfolding bodyWritten pick given
+    tail-refused m e =
+        rw (le-leb _ _ h, length-entries n errors 0, q, eq-eqb (counts (take count heads)) (counts (take count heads)) refl, j, e)
+
+    pub body-allowed : k ≡ accepted tt
+        → bodyWritten count heads (entriesAt n errors 0) k z room ≡ fitted (bodyBytes (take count heads) (entriesAt (counts (take count heads)) errors 0) z) room
+    unfolding bodyWritten pick given
+    body-allowed e =
+        rw (le-leb _ _ h, length-entries n errors 0, q, eq-eqb (counts (take count heads)) (counts (take count heads)) refl, j, e)
 
 pub too-short : (bs : List ℕ) (room : ℕ) → room < length bs → fitted bs room ≡ refused 26
 unfolding fitted pick

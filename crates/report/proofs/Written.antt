@@ -15,9 +15,9 @@ use Rattle.bytes.specs.Numbers.{beBytes, bytesFrom}
 use Rattle.bytes.proofs.NumberLaws.{length-be}
 use Rattle.bytes.proofs.BytesAtLaws.{be-stands-at, BytesAt, bytes-at-parts}
 use Rattle.xdr.specs.Items.{countAt}
-use Rattle.xdr.specs.Parsed.{ok, then, asItem, manyAt, endOf}
+use Rattle.xdr.specs.Parsed.{ok, then, manyAt, endOf}
 use Rattle.xdr.proofs.EndLaws.{none-end, others-end}
-use Rattle.xdr.proofs.ItemsAtLaws.{bytes-stand, num-stands}
+use Rattle.xdr.proofs.ItemsAtLaws.{bytes-stand, num-stands, range-stands}
 use Rattle.report.specs.Reports.{errorAt, errorFits, reportHeadAt, reportAt}
 use Rattle.report.specs.declared.ReportHead.{ReportHead}
 use Rattle.report.proofs.ReportLaws.{report-ends}
@@ -56,29 +56,28 @@ errors-stand (e ∷ es) s at f k w =
 
 pub head-stands : (h : ReportHead) (s : List ℕ) (at : ℕ) (es : List ErrorEntry) → HeadFits h → Allowed h es → BytesAt (headBytes h) s at
     → reportHeadAt s at ≡ ok h (at + 36)
-unfolding headBytes reportHeadAt then asItem pick countAt
+unfolding headBytes reportHeadAt then pick countAt
 head-stands h s at es f k w =
     let o = beBytes 8 (h .offset) in
     let l = beBytes 8 (h .length) in
     let n = beBytes 4 (h .errors) in
     let o8 = length-be 8 (h .offset) in
     let l8 = length-be 8 (h .length) in
-    let a = bytes-at-parts o (l ++ (h .stateid ++ n)) s at w in
-    let b = bytes-at-parts l (h .stateid ++ n) s (at + length o) (a .1) in
-    let c = bytes-at-parts (h .stateid) n s (at + length o + length l) (b .1) in
-    let p1 : at + length o ≡ at + 8 = omega (arith, o8) in
-    let p2 : at + length o + length l ≡ at + 8 + 8 = omega (arith, o8, l8) in
-    let p3 : at + length o + length l + length (h .stateid) ≡ at + 8 + 8 + 16 = omega (arith, o8, l8, f .2) in
+    let ol = length-append o l in
+    let w' : BytesAt (o ++ l ++ (h .stateid ++ n)) s at = rw (append-assoc o l (h .stateid ++ n)) w in
+    let a = bytes-at-parts (o ++ l) (h .stateid ++ n) s at w' in
+    let c = bytes-at-parts (h .stateid) n s (at + length (o ++ l)) (a .1) in
+    let p1 : at + length (o ++ l) ≡ at + 16 = omega (arith, o8, l8, ol) in
+    let p2 : at + length (o ++ l) + length (h .stateid) ≡ at + 16 + 16 = omega (arith, o8, l8, ol, f .2) in
     let big : h .errors < 256 ^ 4 = omega (arith, k .few) in
-    let st : BytesAt (h .stateid) s (at + 8 + 8) = rw p2 at (c .0) in
-    let same : bytesFrom 16 s (at + 8 + 8) ≡ h .stateid = ap (λ (m : ℕ). bytesFrom m s (at + 8 + 8)) (sym (f .2)) ∙ st .same in
-    let z : at + 8 + 8 + 16 + 4 ≡ at + 36 = omega arith in
+    let st : BytesAt (h .stateid) s (at + 16) = rw p1 at (c .0) in
+    let same : bytesFrom 16 s (at + 16) ≡ h .stateid = ap (λ (m : ℕ). bytesFrom m s (at + 16)) (sym (f .2)) ∙ st .same in
+    let z : at + 16 + 16 + 4 ≡ at + 36 = omega arith in
     rw (
-      num-stands 8 (h .offset) s at (f .0) (a .0),
-      num-stands 8 (h .length) s (at + 8) (f .1) (rw p1 at (b .0)),
-      k .range,
-      bytes-stand 16 (h .stateid) s (at + 8 + 8) (f .2) refl st,
-      num-stands 4 (h .errors) s (at + 8 + 8 + 16) big (rw p3 at (c .1)),
+      range-stands (h .offset) (h .length) (k .last) s at (f .0) (f .1) (k .range) (a .0),
+      p1,
+      bytes-stand 16 (h .stateid) s (at + 16) (f .2) refl st,
+      num-stands 4 (h .errors) s (at + 16 + 16) big (rw p2 at (c .1)),
       le-leb 1 (h .errors) (k .some),
       le-leb (h .errors) 16 (k .few),
       same,

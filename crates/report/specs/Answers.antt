@@ -2,17 +2,19 @@
 use Prim.Native.Nat.{ℕ}
 use mathlib.Core.List.{List, [], _++_, map}
 use lib.ListN.{length, replicate}
-use Rattle.base.specs.Limits.{mostReports, stateidSize}
-use Rattle.base.specs.Answer.{Answer, accepted, refused, given}
+use Rattle.base.specs.Limits.{mostReports, mostStatistics, stateidSize}
+use Rattle.base.specs.Answer.{Answer, accepted, refused}
 use Rattle.base.specs.Lists.{padded}
 use Rattle.base.specs.Refusals.{faultNumber}
 use Rattle.bytes.specs.Numbers.{bytesFrom}
 use Rattle.xdr.specs.Parsed.{Parsed, ok, fault, then}
+use Rattle.statistics.specs.Statistics.{blankStatistic}
+use Rattle.statistics.specs.declared.Statistic.{Statistic}
 use Rattle.report.specs.Reports.{Report}
 use Rattle.report.specs.declared.ErrorItem.{ErrorItem}
 use Rattle.report.specs.declared.ReportHead.{ReportHead}
-use Rattle.report.specs.declared.body.ReportsAnswer.{ReportsAnswer}
-use Rattle.report.specs.declared.body.ReportsAnswer.the-variants as answer
+use Rattle.report.specs.declared.body.CountAnswer.{CountAnswer}
+use Rattle.report.specs.declared.body.CountAnswer.the-variants as answer
 use Rattle.xdr.specs.declared.end.ReadEnd.{ReadEnd}
 use Rattle.xdr.specs.declared.end.ReadEnd.the-variants as end
 use Rattle.report.specs.declared.error.ReadError.{ReadError}
@@ -57,15 +59,11 @@ headsOf rs = padded mostReports blankHead (map (λ (r : Report). r .head) rs)
 abbrev pub offsetsOf : List Report → List ℕ
 offsetsOf rs = padded mostReports 0 (map (λ (r : Report). r .errors-at) rs)
 
--- a refusal "gives its number, no other result"
-abbrev pub reportsIn : Answer (List Report) → List Report
-reportsIn (accepted rs) = rs
-reportsIn (refused n) = []
+-- the records of statistics in 8 entries, blank past the list
+abbrev pub statisticEntries : List Statistic → List Statistic
+statisticEntries rs = padded mostStatistics blankStatistic rs
 
-unfoldable pub countOf : Answer (List Report) → Answer ℕ
-countOf a = given a λ rs. accepted (length rs)
-
-abbrev pub answerOfCount : ReportsAnswer → Answer ℕ
+abbrev pub answerOfCount : CountAnswer → Answer ℕ
 answerOfCount (answer.Count n) = accepted n
 answerOfCount (answer.Refused e) = refused (faultNumber e)
 

@@ -1,16 +1,16 @@
--- Error reports, ff_layoutreturn4 of RFC 8435, 9.3, of ff_ioerr4 (9.1.1) and device_error4 (RFC 7862): "Report count
--- (0 to 8), reports, then a statistics count that must be 0 (else 8)."
+-- The layout return, ff_layoutreturn4 of RFC 8435, 9.3: error reports of ff_ioerr4 (9.1.1) and device_error4 (RFC
+-- 7862), then statistics.
 use Prim.Native.Nat.{ℕ, _+_}
 use mathlib.Core.List.{List}
 use mathlib.Core.Bool.{Bool, _&&_, _||_, not}
-use lib.ListN.{length}
 use lib.Dec.{eqb}
-use Rattle.base.specs.Answer.{Answer, pick}
+use Rattle.base.specs.Answer.{Answer, accepted, given, pick}
 use Rattle.base.specs.Limits.{deviceIdSize, mostErrors, mostReports, stateidSize}
-use Rattle.base.specs.Ranges.{rangeLast}
 use Rattle.bytes.specs.Numbers.{bytesFrom}
-use Rattle.xdr.specs.Parsed.{Parsed, ok, fault, then, manyAt, whole, asItem}
-use Rattle.xdr.specs.Items.{numAt, countAt, bytesAt}
+use Rattle.xdr.specs.Parsed.{Parsed, ok, fault, then, manyAt, whole}
+use Rattle.xdr.specs.Items.{numAt, countAt, bytesAt, rangeAt}
+use Rattle.statistics.specs.Statistics.{statisticsAt}
+use Rattle.statistics.specs.declared.Statistic.{Statistic}
 use Rattle.report.specs.declared.ErrorItem.{ErrorItem}
 use Rattle.report.specs.declared.ReportHead.{ReportHead}
 
@@ -38,12 +38,15 @@ errorAt s at =
 -- "offset, length (the pair obeys the range rule, judged here), stateid, error count (1 to 16)"
 unfoldable pub reportHeadAt : List ℕ → ℕ → Parsed ReportHead
 reportHeadAt s at =
-    then (numAt 8 s at) λ offset p1.
-    then (numAt 8 s p1) λ len p2.
-    then (asItem (rangeLast offset len) p2) λ last p.
-    then (bytesAt stateidSize s p) λ stateid p3.
-    then (countAt 1 mostErrors s p3) λ n p4.
-    ok (record { offset = offset; length = len; stateid = bytesFrom stateidSize s (stateid .start); errors = n }) p4
+    then (rangeAt s at) λ range p1.
+    then (bytesAt stateidSize s p1) λ stateid p2.
+    then (countAt 1 mostErrors s p2) λ n p3.
+    ok (record {
+      offset = range .offset;
+      length = range .length;
+      stateid = bytesFrom stateidSize s (stateid .start);
+      errors = n;
+    }) p3
 
 -- a report that was read: what is before its errors, and the offset of the first of them
 pub record Report : Type 0 where
@@ -62,10 +65,23 @@ reportAt s at =
 unfoldable pub reportsAt : List ℕ → ℕ → Parsed (List Report)
 reportsAt s at = then (countAt 0 mostReports s at) λ n p. manyAt reportAt n s p
 
--- "Report count (0 to 8), reports, then a statistics count that must be 0 (else 8). .. Nothing may follow the body."
-unfoldable pub reportBody : List ℕ → Answer (List Report)
-reportBody s =
+-- both halves of the body
+pub record LayoutReturn : Type 0 where
+  pub reports : List Report
+  pub statistics : List Statistic
+
+-- "Report count (0 to 8), reports, then a statistics count (0 to 8, else 8) and as many records of statistics. ..
+-- Nothing may follow the body." (C-13)
+unfoldable pub returnBody : List ℕ → Answer LayoutReturn
+returnBody s =
     whole s
-    (then (reportsAt s 0) λ rs q.
-    then (countAt 0 0 s q) λ statistics z.
-    ok rs z)
+    (then (reportsAt s 0) λ reports p.
+    then (statisticsAt s p) λ statistics q.
+    ok (record { reports = reports; statistics = statistics }) q)
+
+-- each half alone; the whole body is judged
+unfoldable pub reportBody : List ℕ → Answer (List Report)
+reportBody s = given (returnBody s) λ r. accepted (r .reports)
+
+unfoldable pub statisticsBody : List ℕ → Answer (List Statistic)
+statisticsBody s = given (returnBody s) λ r. accepted (r .statistics)

@@ -1,4 +1,4 @@
--- Error reports, ff_layoutreturn4 of RFC 8435, 9.3, written: what is judged, in which order, and the bytes of the
+-- The layout return, ff_layoutreturn4 of RFC 8435, 9.3, written: what is judged, in which order, and the bytes of the
 -- body; and what the functions inside this crate promise of them.
 use Prim.Native.Nat.{ℕ, zero, suc, _+_, _≤_}
 use mathlib.Core.Path.{_≡_}
@@ -8,10 +8,14 @@ use lib.ListN.{length, take, drop}
 use lib.Seq.{sets}
 use lib.Dec.{leb, eqb}
 use Rattle.base.specs.Answer.{Answer, accepted, refused, given, pick}
-use Rattle.base.specs.Limits.{deviceIdSize, errorSize, mostErrors, mostReports, stateidSize}
+use Rattle.base.specs.Limits.{deviceIdSize, errorSize, mostErrors, mostReports, mostStatistics, stateidSize}
 use Rattle.base.specs.Ranges.{rangeLast}
 use Rattle.bytes.specs.Numbers.{bytesFrom, beAt, beBytes}
+use Rattle.statistics.specs.StatisticBytes.{statisticsPart}
+use Rattle.statistics.specs.StatisticChecks.{checkedStatistics}
+use Rattle.statistics.specs.declared.Statistic.{Statistic}
 use Rattle.report.specs.Reports.{errorFits, errorOperationOffset, errorStatusOffset}
+use Rattle.report.specs.declared.Outgoing.{Outgoing}
 use Rattle.report.specs.declared.ReportHead.{ReportHead}
 
 -- one of the errors to be written
@@ -89,24 +93,36 @@ reportsBytes (h ∷ hs) es = headBytes h ++ (errorsBytes (take (h .errors) es) +
 unfoldable pub bodyBytes : List ReportHead → List ErrorEntry → List ℕ → List ℕ
 bodyBytes hs es z = beBytes 4 (length hs) ++ (reportsBytes hs es ++ z)
 
+-- the statistics follow them: their count and the records
+abbrev pub returnBytes : List ReportHead → List ErrorEntry → List Statistic → List ℕ
+returnBytes hs es rs = bodyBytes hs es (statisticsPart rs)
+
 -- ---- the whole
 
 -- "the output is too short"
 unfoldable pub fitted : List ℕ → ℕ → Answer (List ℕ)
 fitted bs room = pick (leb (length bs) room) (accepted bs) (refused 26)
 
--- "In writing, too many reports come first (8), then a list of another length (8), then reports in order, then 26."
-unfoldable pub bodyWritten : ℕ → List ReportHead → List ErrorEntry → List ℕ → ℕ → Answer (List ℕ)
-bodyWritten count heads es z room =
-    pick (leb count mostReports)
-    (pick (eqb (counts (take count heads)) (length es))
-    (given (checkedReports (take count heads) es) λ u. fitted (bodyBytes (take count heads) es z) room)
+-- "In writing, too many reports come first (8), then a list of another length (8), then too many statistics (8), then
+-- reports in order, then records in order, then 26." (C-13)
+unfoldable pub returnWritten : Outgoing → List ErrorEntry → ℕ → Answer (List ℕ)
+returnWritten o es room =
+    pick (leb (o .count) mostReports)
+    (pick (eqb (counts (take (o .count) (o .heads))) (length es))
+    (pick (leb (o .«statistic_count») mostStatistics)
+    (given (checkedReports (take (o .count) (o .heads)) es) λ u.
+    given (checkedStatistics (take (o .«statistic_count») (o .statistics))) λ v.
+    fitted (returnBytes (take (o .count) (o .heads)) es (take (o .«statistic_count») (o .statistics))) room)
+    (refused 8))
     (refused 8))
     (refused 8)
 
--- "then a statistics count that must be 0": nothing else follows the reports
+-- error reports alone: a layout return without statistics
+abbrev pub reportsOnly : ℕ → List ReportHead → Outgoing
+reportsOnly count heads = record { count = count; heads = heads; «statistic_count» = 0; statistics = [] }
+
 unfoldable pub reportsWritten : ℕ → List ReportHead → List ErrorEntry → ℕ → Answer (List ℕ)
-reportsWritten count heads es room = bodyWritten count heads es (beBytes 4 0) room
+reportsWritten count heads es room = returnWritten (reportsOnly count heads) es room
 
 -- "Bytes of the output beyond the body stay"; a refusal "changes nothing lent"
 unfoldable pub outputAfter : List ℕ → Answer (List ℕ) → List ℕ
@@ -114,6 +130,17 @@ outputAfter l (accepted bs) = bs ++ drop (length bs) l
 outputAfter l (refused n) = l
 
 -- ---- inside this crate
+
+-- what is written of reports and of the bytes z after them, of which is known whether they may be written
+unfoldable pub bodyWritten : ℕ → List ReportHead → List ErrorEntry → Answer (Unit {0}) → List ℕ → ℕ → Answer (List ℕ)
+bodyWritten count heads es checked z room =
+    pick (leb count mostReports)
+    (pick (eqb (counts (take count heads)) (length es))
+    (given (checkedReports (take count heads) es) λ u.
+    given checked λ v.
+    fitted (bodyBytes (take count heads) es z) room)
+    (refused 8))
+    (refused 8)
 
 -- n is the error count of a head: it has 32 bits, and the head's stateid has 16 bytes
 pub record ErrorCount (h : ReportHead) (n : ℕ) : Type 0 where

@@ -1,4 +1,4 @@
-// The whole body: the reports, then the statistics count, and the end.
+// The whole body: the reports, then the statistics, and the end.
 use crate::ReportHead;
 use crate::head::ReadReport;
 use crate::head::fault_of_report;
@@ -8,6 +8,9 @@ use base::Fault;
 use base::MOST_REPORTS;
 use base::REPORT_ENTRIES;
 use base::STATEID_SIZE;
+use base::STATISTIC_ENTRIES;
+use statistics::NO_STATISTIC;
+use statistics::Statistic;
 use xdr::Cursor;
 use xdr::ReadEnd;
 use xdr::ReadU32;
@@ -17,14 +20,14 @@ ghost use mathlib.Core.List.{[]};
 ghost use Rattle.base.specs.Limits.{mostReports};
 ghost use Rattle.base.specs.Answer.{refused as refusedBy};
 ghost use Rattle.base.specs.Refusals.{faultNumber};
-ghost use Rattle.xdr.specs.Answers.{parsedOfEnd};
-ghost use Rattle.xdr.specs.Items.{countAt};
-ghost use Rattle.xdr.specs.Parsed.{endOf, manyAt};
-ghost use Rattle.report.specs.Reports.{reportAt, reportBody, reportsAt};
-ghost use Rattle.report.specs.Answers.{answerOfCount, blankHead, countOf, headsOf, offsetsOf, reportsIn};
-ghost use Rattle.report.specs.Answers.{parsedOfArrays, arraysFrom};
+ghost use Rattle.base.specs.Lists.{lengthOf, membersIn};
+ghost use Rattle.xdr.specs.Parsed.{manyAt};
+ghost use Rattle.report.specs.Reports.{reportAt, reportBody, reportsAt, statisticsBody};
+ghost use Rattle.report.specs.Answers.{answerOfCount, arraysFrom, blankHead, headsOf, offsetsOf};
+ghost use Rattle.report.specs.Answers.{parsedOfArrays, statisticEntries};
 
-pub enum ReportsAnswer {
+// How many reports or records of statistics there are.
+pub enum CountAnswer {
     Count(u32),
     Refused(Fault),
 }
@@ -32,9 +35,15 @@ pub enum ReportsAnswer {
 // The reports' heads, and where the first error of each is. Entries past the count are blank, and so is each after
 // a refusal.
 pub struct ReportsRead {
-    pub answer: ReportsAnswer,
+    pub answer: CountAnswer,
     pub heads: [ReportHead; REPORT_ENTRIES],
     pub errors_at: [usize; REPORT_ENTRIES],
+}
+
+// The records of statistics. Entries past the count are blank, and so is each after a refusal.
+pub struct StatisticsRead {
+    pub answer: CountAnswer,
+    pub statistics: [Statistic; STATISTIC_ENTRIES],
 }
 
 // The first half of the body: how many reports it has, and the same arrays; `end` is the offset after the reports.
@@ -114,17 +123,6 @@ fn reports_part(s: &[u8]) -> Arrays
     read_arrays(s, c, n)
 }
 
-// Where the statistics after the reports end: there must be none.
-fn statistics_end(s: &[u8], c: Cursor) -> ReadEnd
-    ensures { λ r. ⌜ parsedOfEnd r ≡ endOf (countAt 0 0 (now (s .entry)) (c .at)) ⌝ }
-{
-    let r = xdr::read_count(s, c, 0, 0);
-    let ReadU32::Value(_, d) = r else {
-        return ReadEnd::Refused(xdr::fault_of_u32(r));
-    };
-    ReadEnd::Value(d)
-}
-
 fn refused(e: Fault) -> ReportsRead
     ensures { λ r. ⌜ (answerOfCount (r .answer) ≡ refusedBy (faultNumber e)) × (r .heads ≡ headsOf [])
         × (r .«errors_at» ≡ offsetsOf []) ⌝ }
@@ -132,7 +130,7 @@ fn refused(e: Fault) -> ReportsRead
     let blank = blank_head();
     let heads = [blank; REPORT_ENTRIES];
     let errors_at = [0usize; REPORT_ENTRIES];
-    let answer = ReportsAnswer::Refused(e);
+    let answer = CountAnswer::Refused(e);
     ReportsRead {
         answer: answer,
         heads: heads,
@@ -140,30 +138,65 @@ fn refused(e: Fault) -> ReportsRead
     }
 }
 
-// The `ff_layoutreturn4` body.
+// The reports of an `ff_layoutreturn4` body. Its statistics are judged too.
 pub fn read_reports(s: &[u8]) -> ReportsRead
-    ensures { λ r. ⌜ (answerOfCount (r .answer) ≡ countOf (reportBody (now (s .entry))))
-        × (r .heads ≡ headsOf (reportsIn (reportBody (now (s .entry)))))
-        × (r .«errors_at» ≡ offsetsOf (reportsIn (reportBody (now (s .entry))))) ⌝ }
+    ensures { λ r. ⌜ (answerOfCount (r .answer) ≡ lengthOf (reportBody (now (s .entry))))
+        × (r .heads ≡ headsOf (membersIn (reportBody (now (s .entry)))))
+        × (r .«errors_at» ≡ offsetsOf (membersIn (reportBody (now (s .entry))))) ⌝ }
 {
     let part = reports_part(s);
     let end = part.end;
     let ReadEnd::Value(c) = end else {
         return refused(xdr::fault_of_end(end));
     };
-    let last = statistics_end(s, c);
+    let last = statistics::statistics_end(s, c);
     let ReadEnd::Value(d) = last else {
         return refused(xdr::fault_of_end(last));
     };
     if d.at != s.len() {
         return refused(Fault::BytesLeftOver);
     }
-    let answer = ReportsAnswer::Count(part.count);
+    let answer = CountAnswer::Count(part.count);
     let heads = part.heads;
     let errors_at = part.errors_at;
     ReportsRead {
         answer: answer,
         heads: heads,
         errors_at: errors_at,
+    }
+}
+
+fn refused_statistics(e: Fault) -> StatisticsRead
+    ensures { λ r. ⌜ (answerOfCount (r .answer) ≡ refusedBy (faultNumber e))
+        × (r .statistics ≡ statisticEntries []) ⌝ }
+{
+    StatisticsRead {
+        answer: CountAnswer::Refused(e),
+        statistics: [NO_STATISTIC; STATISTIC_ENTRIES],
+    }
+}
+
+// The statistics of an `ff_layoutreturn4` body. Its reports are judged too.
+pub fn read_statistics(s: &[u8]) -> StatisticsRead
+    ensures { λ r. ⌜ (answerOfCount (r .answer) ≡ lengthOf (statisticsBody (now (s .entry))))
+        × (r .statistics ≡ statisticEntries (membersIn (statisticsBody (now (s .entry))))) ⌝ }
+{
+    let part = reports_part(s);
+    let end = part.end;
+    let ReadEnd::Value(c) = end else {
+        return refused_statistics(xdr::fault_of_end(end));
+    };
+    let list = statistics::read_list(s, c);
+    let answer = list.answer;
+    let ReadU32::Value(n, e) = answer else {
+        return refused_statistics(xdr::fault_of_u32(answer));
+    };
+    if e.at != s.len() {
+        return refused_statistics(Fault::BytesLeftOver);
+    }
+    let entries = list.entries;
+    StatisticsRead {
+        answer: CountAnswer::Count(n),
+        statistics: entries,
     }
 }

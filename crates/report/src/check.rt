@@ -3,6 +3,7 @@ use crate::ERROR_OPERATION_OFFSET;
 use crate::ERROR_STATUS_OFFSET;
 use crate::ReportHead;
 use crate::error::error_fits;
+use base::Check;
 use base::ERROR_SIZE;
 use base::Fault;
 use base::MOST_ERRORS;
@@ -10,18 +11,11 @@ use base::REPORT_ENTRIES;
 use base::RangeEnd;
 ghost use mathlib.Core.Path.{_≡_};
 ghost use Rattle.base.specs.Limits.{errorSize, mostErrors, mostErrorsInAll, mostReports};
-ghost use Rattle.base.specs.Answer.{refusalIn};
-ghost use Rattle.base.specs.Refusals.{faultNumber};
 ghost use Prim.Native.Nat.{_+_, _*_, _≤_};
 ghost use lib.ListN.{length, take};
 ghost use Rattle.report.specs.Writing.{ErrorCount, ErrorTotal, allFit, counts};
 ghost use Rattle.report.specs.Writing.{checkedReport, checkedReports, entriesAt};
-ghost use Rattle.report.specs.WriteAnswers.{answerOfCheck};
-
-pub enum Check {
-    Allowed,
-    Refused(Fault),
-}
+ghost use Rattle.base.specs.Checks.{answerOfCheck};
 
 // The error count of a head. A caller cannot see how long an element's stateid is, so this says it.
 fn errors_of(head: ReportHead) -> u64
@@ -112,13 +106,4 @@ pub(crate) fn check_reports(
         i += 1;
     }
     Check::Allowed
-}
-
-pub(crate) fn fault_of_check(r: Check) -> Fault
-    ensures { λ e. ⌜ faultNumber e ≡ refusalIn (answerOfCheck r) ⌝ }
-{
-    match r {
-        Check::Refused(e) => e,
-        Check::Allowed => Fault::BytesRunOut,
-    }
 }

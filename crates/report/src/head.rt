@@ -3,13 +3,12 @@ use crate::ReportHead;
 use crate::error::read_errors;
 use base::Fault;
 use base::MOST_ERRORS;
-use base::RangeEnd;
 use base::STATEID_SIZE;
 use xdr::Cursor;
 use xdr::ReadEnd;
 use xdr::ReadPart;
+use xdr::ReadRange;
 use xdr::ReadU32;
-use xdr::ReadU64;
 ghost use mathlib.Core.Path.{_≡_};
 ghost use mathlib.Core.List.{[]};
 ghost use Rattle.base.specs.Limits.{stateidSize};
@@ -70,35 +69,26 @@ pub(crate) fn head_of(s: &[u8], item: HeadItem) -> ReportHead
 pub(crate) fn read_report_head(s: &[u8], c: Cursor) -> ReadReportHead
     ensures { λ r. ⌜ parsedOfReportHead (now (s .entry)) r ≡ reportHeadAt (now (s .entry)) (c .at) ⌝ }
 {
-    let ro = xdr::read_u64(s, c);
-    let ReadU64::Value(offset, c1) = ro else {
-        return ReadReportHead::Refused(xdr::fault_of_u64(ro));
+    let rr = xdr::read_range(s, c);
+    let ReadRange::Value(range, c1) = rr else {
+        return ReadReportHead::Refused(xdr::fault_of_range(rr));
     };
-    let rl = xdr::read_u64(s, c1);
-    let ReadU64::Value(length, c2) = rl else {
-        return ReadReportHead::Refused(xdr::fault_of_u64(rl));
-    };
-    // The pair obeys the range rule, not the rule for I/O requests.
-    let last = base::range_last(offset, length);
-    let RangeEnd::At(_) = last else {
-        return ReadReportHead::Refused(base::fault_of_range_end(last));
-    };
-    let rs = xdr::read_bytes(s, c2, STATEID_SIZE);
-    let ReadPart::Value(part, c3) = rs else {
+    let rs = xdr::read_bytes(s, c1, STATEID_SIZE);
+    let ReadPart::Value(part, c2) = rs else {
         return ReadReportHead::Refused(xdr::fault_of_part(rs));
     };
-    let rn = xdr::read_count(s, c3, 1, MOST_ERRORS);
-    let ReadU32::Value(errors, c4) = rn else {
+    let rn = xdr::read_count(s, c2, 1, MOST_ERRORS);
+    let ReadU32::Value(errors, c3) = rn else {
         return ReadReportHead::Refused(xdr::fault_of_u32(rn));
     };
     let stateid = part.start;
     let item = HeadItem {
-        offset: offset,
-        length: length,
+        offset: range.offset,
+        length: range.length,
         stateid: stateid,
         errors: errors,
     };
-    ReadReportHead::Value(item, c4)
+    ReadReportHead::Value(item, c3)
 }
 
 pub(crate) fn read_report(s: &[u8], c: Cursor) -> ReadReport

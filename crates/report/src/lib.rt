@@ -1,4 +1,4 @@
-// Error reports: the body of `ff_layoutreturn4`, read and written.
+// The body of `ff_layoutreturn4`, error reports and statistics, read and written.
 mod body;
 mod check;
 mod error;
@@ -6,16 +6,22 @@ mod head;
 mod put;
 mod write;
 
+use base::REPORT_ENTRIES;
 use base::STATEID_SIZE;
-pub use body::ReportsAnswer;
+use base::STATISTIC_ENTRIES;
+pub use body::CountAnswer;
 pub use body::ReportsRead;
+pub use body::StatisticsRead;
 pub use body::read_reports;
+pub use body::read_statistics;
 pub use error::ReadError;
 pub use error::error_fits;
 pub use error::read_error;
 pub use put::put_error;
+use statistics::Statistic;
 pub use write::Written;
 pub use write::write_reports;
+pub use write::write_return;
 
 // What is before the errors of a report. `errors` is how many errors follow. It crosses to C as it is.
 #[repr(C)]
@@ -24,6 +30,15 @@ pub struct ReportHead {
     pub length: u64,
     pub stateid: [u8; STATEID_SIZE],
     pub errors: u32,
+}
+
+// What is to be written, but for the errors. Entries from a count on are not looked at. It crosses to C as it is.
+#[repr(C)]
+pub struct Outgoing {
+    pub count: u32,
+    pub heads: [ReportHead; REPORT_ENTRIES],
+    pub statistic_count: u32,
+    pub statistics: [Statistic; STATISTIC_ENTRIES],
 }
 
 // Where the items of a report's head are, from its start: "offset, length .., stateid, error count".

@@ -1,5 +1,5 @@
 // A binding. The payload has: mirror, stripe, supported versions, device id, layout length, layout body, device body.
-use crate::id::id_at;
+use crate::arrays::id_at;
 use base::MirrorNumber;
 use base::StripeNumber;
 use binding::Binding;

@@ -1,4 +1,5 @@
-// Error reports that are read.
+// A layout return that is read: its error reports, then its statistics.
+use crate::statistics_case::print_statistics;
 use base::REPORT_ENTRIES;
 use print::print_between;
 use print::print_device_id;
@@ -7,10 +8,10 @@ use print::print_field;
 use print::print_fields;
 use print::print_hex;
 use print::print_text;
+use report::CountAnswer;
 use report::ErrorItem;
 use report::ReadError;
 use report::ReportHead;
-use report::ReportsAnswer;
 use xdr::Cursor;
 
 fn print_error(payload: &[u8], e: ErrorItem) {
@@ -69,10 +70,11 @@ pub fn print_report_read(payload: &[u8]) {
     let errors_at = got.errors_at;
     print_text(b"report-read");
     match answer {
-        ReportsAnswer::Refused(e) => print_fault(e),
-        ReportsAnswer::Count(count) => {
+        CountAnswer::Refused(e) => print_fault(e),
+        CountAnswer::Count(count) => {
             print_field(b" reports=", count as u64);
             print_reports(payload, heads, errors_at, count);
+            print_statistics(payload);
         }
     }
 }

@@ -1,6 +1,8 @@
 // Error reports that are written. The payload has: output length, report count, reports, list length, errors.
+use crate::arrays::id_at;
+use crate::form::LONGEST_REPORT_OUTPUT;
 use crate::form::error_list_at;
-use crate::id::id_at;
+use crate::form::list_end;
 use base::DEVICE_ID_SIZE;
 use base::ERROR_LIST_SIZE;
 use base::ERROR_SIZE;
@@ -24,7 +26,7 @@ fn head_of(r: &[u8]) -> ReportHead {
 }
 
 // The payload's reports; blank in the entries past their count.
-fn heads_of(payload: &[u8], count: u32) -> [ReportHead; REPORT_ENTRIES] {
+pub(crate) fn heads_of(payload: &[u8], count: u32) -> [ReportHead; REPORT_ENTRIES] {
     let blank = head_of(b"");
     let mut heads = [blank; REPORT_ENTRIES];
     let mut i: usize = 0;
@@ -55,15 +57,39 @@ fn put_entries(records: &mut [u8], errors: &[u8]) {
     }
 }
 
+// The errors of a payload in that form; 0 past them.
+pub(crate) fn entries_of(payload: &[u8]) -> [u8; ERROR_LIST_SIZE] {
+    let mut entries = [0u8; ERROR_LIST_SIZE];
+    let at = error_list_at(bytes::le4(payload, 4));
+    let from = at + 4;
+    let end = list_end(payload, at);
+    if payload.len() < end {
+        return entries;
+    }
+    put_entries(&mut entries, &payload[from..end]);
+    entries
+}
+
+// How many errors a payload says it has.
+pub(crate) fn list_length(payload: &[u8]) -> usize {
+    bytes::le4(payload, error_list_at(bytes::le4(payload, 4))) as usize
+}
+
 fn print_written(w: Written) {
-    print_text(b"report-write");
     match w {
         Written::Length(n) => print_field(b" length=", n as u64),
         Written::Refused(e) => print_refused(e),
     }
 }
 
-// The answer and the whole output.
+// The case's name, the answer and the whole output.
+pub(crate) fn print_answer(name: &[u8], w: Written, out: &[u8]) {
+    print_text(name);
+    print_written(w);
+    print_text(b" output=");
+    print_hex(out);
+}
+
 fn print_output(
     count: u32,
     heads: [ReportHead; REPORT_ENTRIES],
@@ -72,30 +98,23 @@ fn print_output(
     out: &mut [u8],
 ) {
     let w = report::write_reports(count, heads, errors, records, out);
-    print_written(w);
-    print_text(b" output=");
-    print_hex(out);
-}
-
-fn print_writing(payload: &[u8], count: u32, errors: usize, records: &[u8]) {
-    let size = bytes::le4(payload, 0) as usize;
-    let mut out = [165u8; 4096];
-    if out.len() < size {
-        return;
-    }
-    let heads = heads_of(payload, count);
-    print_output(count, heads, errors, records, &mut out[..size]);
+    print_answer(b"report-write", w, out);
 }
 
 pub fn print_report_write(payload: &[u8]) {
-    let count = bytes::le4(payload, 4);
-    let at = error_list_at(count);
-    let from = at + 4;
-    if payload.len() < from {
+    let size = bytes::le4(payload, 0) as usize;
+    let mut out = [165u8; LONGEST_REPORT_OUTPUT as usize];
+    if out.len() < size {
         return;
     }
-    let mut records = [0u8; ERROR_LIST_SIZE];
-    put_entries(&mut records, &payload[from..]);
-    let errors = bytes::le4(payload, at) as usize;
-    print_writing(payload, count, errors, &records);
+    let count = bytes::le4(payload, 4);
+    let heads = heads_of(payload, count);
+    let entries = entries_of(payload);
+    print_output(
+        count,
+        heads,
+        list_length(payload),
+        &entries,
+        &mut out[..size],
+    );
 }

@@ -1,18 +1,20 @@
 -- What holds of items that were read: the items before them, the tests that they passed, their limits and where they end.
-use Prim.Native.Nat.{ℕ, _+_, _≤_}
+use Prim.Native.Nat.{ℕ, zero, suc, _+_, _≤_}
 use mathlib.Core.Path.{_≡_, refl, sym, ap, _∙_}
 use mathlib.Core.Bool.{Bool, true, false}
 use mathlib.Core.List.{List}
 use native.Mathlib.Omega.{arith}
 use borrow.Author.Tests.{eqb-true, leb-true}
-use lib.Dec.{eqb}
+use lib.Dec.{eqb, leb}
 use lib.ListN.{length}
 use Rattle.base.specs.Answer.{Answer, accepted, refused, pick}
+use Rattle.base.specs.Ranges.{rangeLast}
 use Rattle.base.proofs.AnswerLaws.{both, never-accepted, pick-accepted, same-answer}
 use Rattle.bytes.specs.Numbers.{allZero, bytesFrom, beValue}
 use Rattle.xdr.specs.Parsed.{Parsed, ok, fault, then, whole, asItem}
-use Rattle.xdr.specs.Items.{bytesAt, countAt, numAt, opaqueAt, padding}
+use Rattle.xdr.specs.Items.{boolAt, bytesAt, countAt, numAt, opaqueAt, padding, rangeAt}
 use Rattle.xdr.specs.declared.Part.{Part}
+use Rattle.xdr.specs.declared.range.Range.{Range}
 
 pub never : {A B : Type 0} (n : ℕ) (a : A) (p : ℕ) → fault n ≡ ok a p → B
 never n a p e = let z : _≡_ {A = ℕ} 0 1 = cc in absurd (omega arith)
@@ -22,6 +24,10 @@ same-value e = cc
 
 pub same-offset : {A : Type 0} {a b : A} {p q : ℕ} → ok a p ≡ ok b q → p ≡ q
 same-offset e = cc
+
+-- what holds of a value and its offset, of the same ones by other names
+pub moved : {A : Type 0} (P : A → ℕ → Type 0) (a b : A) (p q : ℕ) → ok a p ≡ ok b q → P a p → P b q
+moved P a b p q e x = rw (← same-value e, ← same-offset e) x
 
 -- the item that an accepted run began with, and the run after it
 pub record ThenInv {A B : Type 0} (x : Parsed A) (f : A → ℕ → Parsed B) (b : B) (q : ℕ) : Type 0 where
@@ -126,3 +132,41 @@ opaque-within least most s at v p h =
     let b = opaque-read least most s at v p h .bytes in
     let e : v .start ≡ at + 4 = ap (λ (x : Part). x .start) (b .value) in
     omega (arith, b .end, b .within)
+
+-- a boolean is the number 0 or 1
+pub bit-is : (n : ℕ) → n ≤ 1 → pick (eqb n 1) 1 0 ≡ n
+unfolding pick
+bit-is zero h = refl
+bit-is (suc zero) h = refl
+bit-is (suc (suc n)) h = absurd (omega (arith, h))
+
+bool-number : (s : List ℕ) (at n p : ℕ) → leb n 1 ≡ true → Number 4 s at n p → Number 4 s at (pick (eqb n 1) 1 0) p
+bool-number s at n p t r = rw (bit-is n (leb-true n 1 t)) r
+
+pub bool-read : (s : List ℕ) (at : ℕ) (b : Bool) (p : ℕ) → boolAt s at ≡ ok b p → Number 4 s at (pick b 1 0) p
+unfolding boolAt
+bool-read s at b p h =
+    let r = then-inv _ _ b p h in
+    let t = pick-inv (leb (r .item) 1) _ 7 b p (r .rest) in
+    moved (λ c q. Number 4 s at (pick c 1 0) q) _ b _ p (t .chosen) (bool-number s at (r .item) (r .next) (t .test) (number-read 4 s at (r .item) (r .next) (r .first)))
+
+-- the two numbers of a range, and its last byte
+pub record Ranged (s : List ℕ) (at : ℕ) (v : Range) (p : ℕ) : Type 0 where
+  pub offset : numAt 8 s at ≡ ok (v .offset) (at + 8)
+  pub len : numAt 8 s (at + 8) ≡ ok (v .length) p
+  pub last : rangeLast (v .offset) (v .length) ≡ accepted (v .last)
+
+range-parts : (s : List ℕ) (at o p1 l p2 x p3 : ℕ) → numAt 8 s at ≡ ok o p1 → numAt 8 s p1 ≡ ok l p2 → asItem (rangeLast o l) p2 ≡ ok x p3
+    → Ranged s at (record { offset = o; length = l; last = x }) p3
+range-parts s at o p1 l p2 x p3 f g h =
+    let e : p1 ≡ at + 8 = number-read 8 s at o p1 f .end in
+    let c = item-accepted (rangeLast o l) p2 x p3 h in
+    record { offset = rw e at f; len = rw (e, c .1) at g; last = c .0 }
+
+pub range-read : (s : List ℕ) (at : ℕ) (v : Range) (p : ℕ) → rangeAt s at ≡ ok v p → Ranged s at v p
+unfolding rangeAt
+range-read s at v p h =
+    let o = then-inv _ _ v p h in
+    let l = then-inv _ _ v p (o .rest) in
+    let x = then-inv _ _ v p (l .rest) in
+    moved (Ranged s at) _ v _ p (x .rest) (range-parts s at (o .item) (o .next) (l .item) (l .next) (x .item) (x .next) (o .first) (l .first) (x .first))

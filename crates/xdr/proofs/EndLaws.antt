@@ -22,6 +22,17 @@ unfolding endOf then
 end-goes-on (ok a q) f = refl
 end-goes-on (fault n) f = refl
 
+-- what was read, by where it ends
+pub end-was-refused : {A : Type 0} (x : Parsed A) (n : ℕ) → endOf x ≡ fault n → x ≡ fault n
+unfolding endOf then
+end-was-refused (ok a q) n e = let z : _≡_ {A = ℕ} 0 1 = cc in absurd (omega arith)
+end-was-refused (fault m) n e = let h : m ≡ n = cc in rw h
+
+pub end-was-read : {A : Type 0} (x : Parsed A) (p : ℕ) → endOf x ≡ ok tt p → (a : A) × (x ≡ ok a p)
+unfolding endOf then
+end-was-read (ok a q) p e = let h : q ≡ p = cc in (a, rw h)
+end-was-read (fault n) p e = let z : _≡_ {A = ℕ} 0 1 = cc in absurd (omega arith)
+
 -- ---- several items, the first of them apart
 
 module _ {A : Type 0} (item : List ℕ → ℕ → Parsed A) (n : ℕ) (s : List ℕ) (at : ℕ) where

@@ -1,6 +1,6 @@
 -- Laws of items read into arrays one after the other: they are then the first of the entries, and the others stay blank.
 use Prim.Native.Nat.{ℕ, _+_, _-_, _≤_, _<_}
-use mathlib.Core.Path.{_≡_, refl}
+use mathlib.Core.Path.{_≡_, refl, sym, ap}
 use mathlib.Core.List.{List}
 use native.Mathlib.Numerals.{add-one}
 use native.Mathlib.Omega.{arith}
@@ -11,7 +11,7 @@ use Rattle.base.proofs.ListLaws.{filled-is-padded, length-padded, padded-at}
 use Rattle.xdr.specs.Parsed.{Parsed, ok, fault, then, manyAt}
 use Rattle.xdr.specs.Items.{countAt}
 use Rattle.xdr.specs.CountedLists.{Listed, listAt}
-use Rattle.xdr.proofs.Accepted.{count-read, then-inv, same-value}
+use Rattle.xdr.proofs.Accepted.{count-read, never, then-inv, same-offset, same-value}
 use Rattle.xdr.proofs.ManyLaws.{first-then, many-all, many-length, none-then, refused-then}
 
 -- n items, of which those still to be read come into the entries t from the index i on
@@ -79,3 +79,47 @@ list-read least most item blank s P h at v p e =
       long = length-padded most blank (t .item) (omega (arith, c .high));
       each = λ i j. rw (padded-at most blank (t .item) i) (many-all item s P h (r .item) (r .next) (t .item) (t .next) (t .first) i blank j);
     })
+
+-- ---- the members of a list, without their array
+
+abbrev listed : {A : Type 0} → ℕ → A → List A → ℕ → Parsed (Listed A)
+listed most blank l q = ok (record { count = length l; entries = padded most blank l }) q
+
+pub list-by-members : {A : Type 0} (least most : ℕ) (item : List ℕ → ℕ → Parsed A) (blank : A) (s : List ℕ) (at : ℕ)
+    → listAt least most item blank s at ≡ then (then (countAt least most s at) λ n p. manyAt item n s p) (listed most blank)
+unfolding listAt then
+list-by-members {A = A} least most item blank s at = go (countAt least most s at) where
+  each : (n : ℕ) (x : Parsed (List A)) → ((l : List A) (q : ℕ) → x ≡ ok l q → length l ≡ n)
+      → then x (λ l q. ok (record { count = n; entries = padded most blank l }) q) ≡ then x (listed most blank)
+  each n (ok l q) h = rw (h l q refl)
+  each n (fault k) h = refl
+
+  go : (x : Parsed ℕ)
+      → then x (λ n p. then (manyAt item n s p) λ l q. ok (record { count = n; entries = padded most blank l }) q)
+      ≡ then (then x λ n p. manyAt item n s p) (listed most blank)
+  go (ok n p) = each n (manyAt item n s p) (λ l q e. many-length item n s p l q e)
+  go (fault k) = refl
+
+pub record Members {A : Type 0} (most : ℕ) (blank : A) (x : Parsed (List A)) (n : ℕ) (entries : List A) (p : ℕ) : Type 0 where
+  pub members : List A
+  pub were : x ≡ ok members p
+  pub count : n ≡ length members
+  pub all : entries ≡ padded most blank members
+
+pub members-read : {A : Type 0} (most : ℕ) (blank : A) (x : Parsed (List A)) (n : ℕ) (entries : List A) (p : ℕ)
+    → then x (listed most blank) ≡ ok (record { count = n; entries = entries }) p → Members most blank x n entries p
+unfolding then
+members-read {A = A} most blank (ok l q) n entries p e =
+    let v : _≡_ {A = Listed A} (record { count = length l; entries = padded most blank l }) (record { count = n; entries = entries }) = same-value e in
+    record {
+      members = l;
+      were = ap (ok l) (same-offset e);
+      count = sym (ap (λ (x : Listed A). x .count) v);
+      all = sym (ap (λ (x : Listed A). x .entries) v);
+    }
+members-read most blank (fault k) n entries p e = never k _ p e
+
+pub members-refused : {A : Type 0} (most : ℕ) (blank : A) (x : Parsed (List A)) (n : ℕ) → then x (listed most blank) ≡ fault n → x ≡ fault n
+unfolding then
+members-refused most blank (ok l q) n e = let z : _≡_ {A = ℕ} 0 1 = cc in absurd (omega arith)
+members-refused most blank (fault k) n e = let h : k ≡ n = cc in rw h

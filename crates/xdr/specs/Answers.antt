@@ -12,6 +12,9 @@ use Rattle.xdr.specs.declared.number.ReadU32.{ReadU32}
 use Rattle.xdr.specs.declared.number.ReadU32.the-variants as u32
 use Rattle.xdr.specs.declared.number.ReadU64.{ReadU64}
 use Rattle.xdr.specs.declared.number.ReadU64.the-variants as u64
+use Rattle.xdr.specs.declared.range.Range.{Range}
+use Rattle.xdr.specs.declared.range.ReadRange.{ReadRange}
+use Rattle.xdr.specs.declared.range.ReadRange.the-variants as range
 use Rattle.xdr.specs.declared.item.ReadBool.{ReadBool}
 use Rattle.xdr.specs.declared.item.ReadBool.the-variants as bool
 use Rattle.xdr.specs.declared.item.ReadPart.{ReadPart}
@@ -24,6 +27,10 @@ parsedOfU32 (u32.Refused e) = fault (faultNumber e)
 abbrev pub parsedOfU64 : ReadU64 → Parsed ℕ
 parsedOfU64 (u64.Value n c) = ok n (c .at)
 parsedOfU64 (u64.Refused e) = fault (faultNumber e)
+
+abbrev pub parsedOfRange : ReadRange → Parsed Range
+parsedOfRange (range.Value v c) = ok v (c .at)
+parsedOfRange (range.Refused e) = fault (faultNumber e)
 
 abbrev pub parsedOfBool : ReadBool → Parsed Bool
 parsedOfBool (bool.Value b c) = ok b (c .at)

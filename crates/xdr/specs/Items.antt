@@ -1,14 +1,16 @@
 -- The items of XDR, each at an offset of a list of bytes. "At one item the order is: enough bytes (its padding
 -- counted), then its value, then its padding. A length or count in front is an item of its own."
 use Prim.Native.Nat.{ℕ, _+_, _-_, _%_}
-use mathlib.Core.List.{List}
+use mathlib.Core.List.{List, _++_}
 use mathlib.Core.Bool.{Bool, _&&_}
-use lib.ListN.{length}
+use lib.ListN.{length, replicate}
 use lib.Dec.{leb, eqb}
 use Rattle.base.specs.Answer.{pick}
-use Rattle.bytes.specs.Numbers.{allZero, beValue, bytesFrom}
-use Rattle.xdr.specs.Parsed.{Parsed, ok, fault, then}
+use Rattle.base.specs.Ranges.{rangeLast}
+use Rattle.bytes.specs.Numbers.{allZero, beBytes, beValue, bytesFrom}
+use Rattle.xdr.specs.Parsed.{Parsed, ok, fault, then, asItem}
 use Rattle.xdr.specs.declared.Part.{Part}
+use Rattle.xdr.specs.declared.range.Range.{Range}
 
 -- a number of k bytes: "All wire numbers are big-endian: 4 or 8 bytes."
 unfoldable pub numAt : ℕ → List ℕ → ℕ → Parsed ℕ
@@ -37,3 +39,15 @@ bytesAt n s at =
 -- "Variable opaque and string data have a 4-byte length, the bytes, then 0 to 3 zero bytes": of least to most bytes
 unfoldable pub opaqueAt : ℕ → ℕ → List ℕ → ℕ → Parsed Part
 opaqueAt least most s at = then (countAt least most s at) λ n p. bytesAt n s p
+
+-- the bytes that opaqueAt reads: the length, the bytes, their padding
+unfoldable pub opaqueBytes : List ℕ → List ℕ
+opaqueBytes bs = beBytes 4 (length bs) ++ (bs ++ replicate (padding (length bs)) 0)
+
+-- "offset, length (the pair obeys the range rule, judged here)": the range is judged when both its numbers are read
+unfoldable pub rangeAt : List ℕ → ℕ → Parsed Range
+rangeAt s at =
+    then (numAt 8 s at) λ offset p1.
+    then (numAt 8 s p1) λ len p2.
+    then (asItem (rangeLast offset len) p2) λ last p3.
+    ok (record { offset = offset; length = len; last = last }) p3

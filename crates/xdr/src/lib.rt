@@ -2,6 +2,7 @@
 mod end;
 mod item;
 mod number;
+mod range;
 
 pub use end::ReadEnd;
 pub use end::fault_of_end;
@@ -19,6 +20,10 @@ pub use number::fault_of_u32;
 pub use number::fault_of_u64;
 pub use number::read_u32;
 pub use number::read_u64;
+pub use range::Range;
+pub use range::ReadRange;
+pub use range::fault_of_range;
+pub use range::read_range;
 
 // The offset of the next item.
 pub struct Cursor {

@@ -4,4 +4,5 @@
 pub mod bodies;
 pub mod events;
 pub mod random;
+pub mod statistics;
 pub mod wire;

@@ -2,7 +2,7 @@
 //! be corrupted or the body be cut in front of it.
 
 /// The variable opaque and string items.
-#[derive(Clone, Copy, Debug, PartialEq, Eq)]
+#[derive(Clone, Copy, Debug, PartialEq, Eq, PartialOrd, Ord)]
 pub enum Opaque {
     Filehandle,
     User,
@@ -37,6 +37,18 @@ pub enum Item {
     Status,
     Operation,
     StatisticsCount,
+    StatisticOffset,
+    StatisticLength,
+    StatisticStateid,
+    /// A count or the bytes of reads or writes: four a record.
+    Transfer,
+    StatisticDeviceId,
+    /// Ten a record.
+    LatencyNumber,
+    /// Five a record, as the nanoseconds.
+    Seconds,
+    Nanoseconds,
+    Local,
     LengthOf(Opaque),
     ContentOf(Opaque),
     PaddingOf(Opaque),

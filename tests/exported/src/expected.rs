@@ -6,7 +6,8 @@ use independent::device::{Device, NetidClass, VersionEntry};
 use independent::layout::LayoutSummary;
 use independent::layout4::{Layout4, BODY_IN_LAYOUT4};
 use independent::refusal::Refusal;
-use independent::report::{self, Reports};
+use independent::report::{self, LayoutReturn};
+use independent::statistics::{IoInfo, Latency, OpaqueField, Statistic, Time};
 use independent::xdr::{Cursor, Extent};
 
 fn number(refusal: Refusal) -> u32 {
@@ -104,7 +105,7 @@ pub fn head(h: &report::ReportHead) -> ReportHead {
 }
 
 /// The errors of a report are after its head, which has 36 bytes, 24 bytes each.
-pub fn reports(read: Result<Reports, Refusal>) -> ReportsResult {
+pub fn reports(read: Result<LayoutReturn, Refusal>) -> ReportsResult {
     let mut result = ReportsResult::default();
     match read {
         Ok(r) => {
@@ -121,12 +122,75 @@ pub fn reports(read: Result<Reports, Refusal>) -> ReportsResult {
     result
 }
 
+pub fn statistics(read: Result<LayoutReturn, Refusal>) -> StatisticsResult {
+    let mut result = StatisticsResult::default();
+    match read {
+        Ok(r) => {
+            result.count = r.statistics.len() as u32;
+            for (place, s) in result.statistics.iter_mut().zip(&r.statistics) {
+                *place = statistic(s);
+            }
+        }
+        Err(refusal) => result.refusal = number(refusal),
+    }
+    result
+}
+
+pub fn statistic(s: &Statistic) -> StatisticRecord {
+    StatisticRecord {
+        offset: s.offset,
+        length: s.length,
+        stateid: s.stateid,
+        read: io_info(s.read),
+        write: io_info(s.write),
+        device: s.device_id,
+        update: LayoutUpdateRecord {
+            address: NetaddrRecord { netid: opaque(s.netid), text: opaque(s.address) },
+            filehandle: opaque(s.filehandle),
+            read: latency(&s.read_latency),
+            write: latency(&s.write_latency),
+            duration: time(s.duration),
+            local: s.local,
+        },
+    }
+}
+
+fn io_info(info: IoInfo) -> IoInfoRecord {
+    IoInfoRecord { count: info.count, bytes: info.bytes }
+}
+
+/// Spare bytes and all.
+fn opaque<const LONGEST: usize>(field: OpaqueField<LONGEST>) -> OpaqueRecord<LONGEST> {
+    OpaqueRecord { length: field.length, bytes: field.bytes }
+}
+
+fn latency(l: &Latency) -> LatencyRecord {
+    LatencyRecord {
+        ops_requested: l.ops_requested,
+        bytes_requested: l.bytes_requested,
+        ops_completed: l.ops_completed,
+        bytes_completed: l.bytes_completed,
+        bytes_not_delivered: l.bytes_not_delivered,
+        busy: time(l.total_busy_time),
+        completion: time(l.aggregate_completion_time),
+    }
+}
+
+/// Negative seconds are the number that their 8 bytes are.
+fn time(t: Time) -> TimeRecord {
+    TimeRecord { seconds: t.seconds as u64, nanoseconds: t.nanoseconds }
+}
+
 /// The error at an offset of a body: "device id, status, operation".
 pub fn error(body: &[u8], at: usize) -> ErrorResult {
     match report::read_error(&mut Cursor::starting_at(body, at)) {
         Ok(e) => ErrorResult { refusal: 0, device: at, status: e.status, operation: e.operation },
         Err(refusal) => ErrorResult { refusal: number(refusal), ..ErrorResult::default() },
     }
+}
+
+pub fn error_record(e: &report::DeviceError) -> ErrorRecord {
+    ErrorRecord { device: e.device_id, status: e.status, operation: e.operation }
 }
 
 pub fn written(length: Result<usize, Refusal>) -> WriteResult {

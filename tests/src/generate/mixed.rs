@@ -6,6 +6,7 @@ use super::event_bursts::{EventSource, MOST_IN_BOTH};
 use super::judged_mirrors::{random_judged, MOST_IN_JUDGED};
 use super::layout4s::EDGES;
 use super::layouts::MOST_SERVERS;
+use super::random_statistics::add_statistics_case;
 use super::reports_written::case_of;
 use super::segment_limits::{random_full_list, MOST_IN_FULL_LIST};
 use independent::binding::BindRequest;
@@ -23,14 +24,20 @@ use independent::table_cases::TableCase;
 const LONGEST_BURST: usize = 80;
 
 /// A file of `count` random cases; those of the table come in bursts, between
-/// which its state stays. One seed in two adds a last record that
-/// stops the run: a cut one, one of an unknown kind, or one without its form.
+/// which its state stays, and those of I/O statistics come everywhere. One seed
+/// in two adds a last record that stops the run: a cut one, one of an unknown
+/// kind, or one without its form.
 pub fn random_file(seed: u64, count: usize) -> Vec<u8> {
     let mut random = Random::new(seed);
     let mut cases = CaseFileWriter::default();
     let mut source = EventSource::new(&mut random);
     let mut left = count;
     while left > 0 {
+        if random.once_in(2) {
+            add_statistics_case(&mut cases, &mut random);
+            left -= 1;
+            continue;
+        }
         let burst = table_cases(&mut source, &mut random, left);
         if burst.is_empty() {
             add_case(&mut cases, &mut random);

@@ -1,4 +1,5 @@
-//! Cases of error report bodies to be read.
+//! Cases of error report bodies to be read; those with I/O statistics are in
+//! [`super::statistics_read`].
 
 use super::layout4s::EDGES;
 use independent::cases::{kind, CaseFileWriter};
@@ -87,7 +88,7 @@ fn add_limits(bodies: &mut Vec<Vec<u8>>) {
     let counts = [
         (Item::ReportCount, &[9, 10, 256, 1 << 31, u32::MAX][..]),
         (Item::ErrorCount, &[0, 17, 256, 1 << 31, u32::MAX]),
-        (Item::StatisticsCount, &[1, 2, 8, 256, 1 << 24, 1 << 31, u32::MAX]),
+        (Item::StatisticsCount, &[1, 8, 9, 256, 1 << 24, 1 << 31, u32::MAX]),
     ];
     for (item, values) in counts {
         let last = wire.offsets(item).len() - 1;
@@ -142,7 +143,7 @@ fn add_two_faults(bodies: &mut Vec<Vec<u8>>) {
             let corrupted = wire.holding(wire.with_uint(item, which, value));
             bodies.push(corrupted.with_uhyper(Item::Length, 0, 0));
             bodies.push(corrupted.with_uhyper(Item::Length, 1, 0));
-            bodies.push(corrupted.with_uint(Item::StatisticsCount, 0, 1));
+            bodies.push(corrupted.with_uint(Item::StatisticsCount, 0, 9));
             bodies.push(corrupted.with_uint(Item::ReportCount, 0, 9));
             bodies.push(extended(&corrupted.bytes, &[0]));
         }

@@ -1,4 +1,5 @@
-//! Cases of error reports to be written.
+//! Cases of error reports to be written, without statistics; those with I/O
+//! statistics are in [`super::statistics_written`].
 
 use super::layout4s::EDGES;
 use super::reports_read::reports;

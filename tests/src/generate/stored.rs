@@ -2,7 +2,7 @@
 
 use super::{
     bindings, captured, devices, event_bursts, file_ends, granted_bytes, layout4s, layouts, locates, overlaps,
-    reports_read, reports_written, segment_limits, slot_limits, unsound,
+    reports_read, reports_written, segment_limits, slot_limits, statistics_read, statistics_written, unsound,
 };
 use independent::cases::CaseFileWriter;
 use std::io;
@@ -20,6 +20,8 @@ pub fn stored_file() -> io::Result<Vec<u8>> {
     bindings::add(&mut cases);
     reports_read::add(&mut cases);
     reports_written::add(&mut cases);
+    statistics_read::add(&mut cases);
+    statistics_written::add(&mut cases);
     file_ends::add(&mut cases);
     overlaps::add(&mut cases);
     segment_limits::add(&mut cases);

@@ -1,10 +1,9 @@
 -- `layout4::frame::read_frame` meets its contract, item by item.
 use Rattle.base.specs.Answer.{pick}
 use Rattle.base.specs.Iomodes.{answerOfIomode}
-use Rattle.layout4.specs.Answers.{parsedOfRange}
 use Rattle.layout4.specs.Layout4s.{frameAt}
 use Rattle.xdr.proofs.Steps.{by-case, fault-up, refusal-up}
-use Rattle.xdr.specs.Answers.{parsedOfU32}
+use Rattle.xdr.specs.Answers.{parsedOfRange, parsedOfU32}
 use Rattle.xdr.specs.Parsed.{asItem, then}
 use borrow.Author.Needs.{needs}
 use borrow.Author.Tests.{eq-eqb, ne-eqb}

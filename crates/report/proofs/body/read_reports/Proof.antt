@@ -1,15 +1,14 @@
 -- `report::body::read_reports` meets its contract: the reports, the statistics, the end.
-use Rattle.base.specs.Answer.{accepted, pick}
+use Rattle.base.specs.Answer.{accepted}
 use Rattle.base.specs.Refusals.{faultNumber}
-use Rattle.report.proofs.ReportLaws.{answer-accepted, answer-refused, arrays-no, arrays-ok, body-accepted, body-ends}
+use Rattle.report.proofs.ReportLaws.{answer-accepted, answer-refused, arrays-no, arrays-ok, body-accepted, bytes-left-over, reports-of, reports-of-refused, reports-refuse, statistics-refuse}
+use Rattle.xdr.proofs.EndLaws.{end-was-read, end-was-refused}
 use Rattle.report.specs.Answers.{parsedOfArrays}
 use Rattle.report.specs.Reports.{reportBody}
 use Rattle.xdr.proofs.Steps.{by-case, fault-up, fault-up-from}
 use Rattle.xdr.specs.Answers.{parsedOfEnd}
-use Rattle.xdr.specs.Parsed.{then, whole}
 use Rattle.xdr.specs.declared.end.ReadEnd.{ReadEnd}
 use borrow.Author.Needs.{needs}
-use borrow.Author.Tests.{ne-eqb}
 use denote.Ref.{now}
 use mathlib.Core.Path.{refl, ap}
 use Rattle.report.proofs.body.read_reports.Statement.{statement}
@@ -31,16 +30,15 @@ refused-requires : tie.Need-refused-requires
 refused-requires c κs = search needs
 
 returns : tie.Need-returns
-unfolding then whole
 returns c =
-    let start = c .before .before .before .before .before .before in
+    let s = now (c .before .before .before .before .before .before .args .s) in
     let r = c .before .before .before .before .reports-part .result in
     let w = faultNumber (c .before .fault-of-end .result) in
     let n = arrays-no _ w
     (fault-up-from parsedOfEnd (λ (e : ReadEnd). parsedOfArrays e (r .count) (r .heads) (r .«errors_at»))
     (c .before .before .before .before .reports-part .ensures) (c .before .before .enum-told .given .1)
     (c .before .fault-of-end .ensures) refl refl) in
-    answer-refused _ w _ _ _ (rw (body-ends (now (start .args .s)), n)) (c .refused .ensures)
+    answer-refused _ w _ _ _ (reports-of-refused s w (reports-refuse s w n)) (c .refused .ensures)
 
 statistics-end-requires : tie.Need-statistics-end-requires
 statistics-end-requires c κs = search needs
@@ -58,7 +56,6 @@ refused-requires-2 : tie.Need-refused-requires-2
 refused-requires-2 c κs = search needs
 
 returns-2 : tie.Need-returns-2
-unfolding then whole
 returns-2 c =
     let after-end = c .before .before .before .before .before .before in
     let r = after-end .before .before .reports-part .result in
@@ -66,19 +63,15 @@ returns-2 c =
     let a = arrays-ok _ (r .count) (r .heads) (r .«errors_at») _
     (by-case (λ (e : ReadEnd). parsedOfArrays e (r .count) (r .heads) (r .«errors_at»))
     (after-end .before .before .reports-part .ensures) (after-end .end .given .1)) in
-    answer-refused _ (faultNumber (c .before .fault-of-end2 .result)) _ _ _
-    (rw (
-      body-ends s,
-      a .were,
-      fault-up parsedOfEnd (c .before .before .before .before .statistics-end .ensures)
-          (c .before .before .enum-told2 .given .1) (c .before .fault-of-end2 .ensures) refl,
-    )) (c .refused2 .ensures)
+    let w = faultNumber (c .before .fault-of-end2 .result) in
+    let f = end-was-refused _ w (fault-up parsedOfEnd (c .before .before .before .before .statistics-end .ensures)
+    (c .before .before .enum-told2 .given .1) (c .before .fault-of-end2 .ensures) refl) in
+    answer-refused _ w _ _ _ (reports-of-refused s w (statistics-refuse s (a .reports) _ w (a .were) f)) (c .refused2 .ensures)
 
 refused-requires-3 : tie.Need-refused-requires-3
 refused-requires-3 c κs = search needs
 
 returns-3 : tie.Need-returns-3
-unfolding then whole pick
 returns-3 c =
     let after-last = c .before .before .before .before in
     let after-end = after-last .before .before .before .before in
@@ -87,13 +80,9 @@ returns-3 c =
     let a = arrays-ok _ (r .count) (r .heads) (r .«errors_at») _
     (by-case (λ (e : ReadEnd). parsedOfArrays e (r .count) (r .heads) (r .«errors_at»))
     (after-end .before .before .reports-part .ensures) (after-end .end .given .1)) in
-    answer-refused _ 2 _ _ _
-    (rw (
-      body-ends s,
-      a .were,
-      by-case parsedOfEnd (after-last .before .before .statistics-end .ensures) (after-last .last .given .1),
-      ne-eqb _ _ (c .before .if1 .taken),
-    )) (c .refused3 .ensures)
+    let f = end-was-read _ _ (by-case parsedOfEnd (after-last .before .before .statistics-end .ensures) (after-last .last .given .1)) in
+    answer-refused _ 2 _ _ _ (reports-of-refused s 2 (bytes-left-over s (a .reports) _ (f .0) _ (a .were) (f .1) (c .before .if1 .taken)))
+    (c .refused3 .ensures)
 
 returns-4 : tie.Need-returns-4
 returns-4 c =
@@ -104,10 +93,10 @@ returns-4 c =
     let a = arrays-ok _ (r .count) (r .heads) (r .«errors_at») _
     (by-case (λ (e : ReadEnd). parsedOfArrays e (r .count) (r .heads) (r .«errors_at»))
     (after-end .before .before .reports-part .ensures) (after-end .end .given .1)) in
+    let f = end-was-read _ _ (by-case parsedOfEnd (after-last .before .before .statistics-end .ensures) (after-last .last .given .1)) in
     answer-accepted (reportBody s) (a .reports) _ _ _
-    (body-accepted s (a .reports) _ _ (a .were)
-    (by-case parsedOfEnd (after-last .before .before .statistics-end .ensures) (after-last .last .given .1))
-    (c .before .before .if1 .left)) (ap accepted (a .count), a .heads, a .offsets)
+    (reports-of s _ (body-accepted s (a .reports) _ (f .0) _ (a .were) (f .1) (c .before .before .if1 .left)))
+    (ap accepted (a .count), a .heads, a .offsets)
 
 pub read-reports-spec : {M : Type 1} → statement M
 read-reports-spec =

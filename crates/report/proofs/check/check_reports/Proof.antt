@@ -3,7 +3,7 @@
 use Prim.Native.Nat.{_+_, _-_, _*_, _≤_, _<_}
 use Rattle.base.specs.Answer.{given}
 use Rattle.report.proofs.EntryLaws.{allowed, checked-next, checked-none}
-use Rattle.report.specs.WriteAnswers.{answerOfCheck}
+use Rattle.base.specs.Checks.{answerOfCheck}
 use Rattle.report.specs.Writing.{counts, checkedReports, entriesAt}
 use Rattle.xdr.proofs.Steps.{by-case}
 use borrow.Author.Needs.{needs}

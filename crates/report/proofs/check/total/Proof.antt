@@ -1,7 +1,8 @@
 -- `report::check::total` meets its contract. The loop's invariant: the sum so far and the counts left are all counts, the sum so far has
 -- room, and the stateids left decide. The measure is how many heads are left.
 use Prim.Native.Nat.{_+_, _*_, _≤_, _<_}
-use Rattle.report.proofs.EntryLaws.{counts-next, counts-none, next-head}
+use Rattle.base.proofs.ListLaws.{taken-next}
+use Rattle.report.proofs.EntryLaws.{counts-next, counts-none, noHead}
 use Rattle.report.specs.Writing.{counts, stateidsWhole}
 use borrow.Author.Needs.{needs}
 use borrow.Author.Tests.{eq-eqb}
@@ -57,7 +58,7 @@ loop-again c =
       l .inv .2,
       omega (arith, l .inv .3, c .errors-of .ensures .bound),
       omega (arith, a, l .inv .4, c .errors-of .ensures .number),
-      rw (l .inv .5, next-head hs (l .i) (l .rest) h m, eq-eqb _ _ (c .errors-of .ensures .stateid)),
+      rw (l .inv .5, taken-next hs noHead (l .i) (l .rest) h m, eq-eqb _ _ (c .errors-of .ensures .stateid)),
     )
 
 returns : tie.Need-returns Inv-loop μ-loop

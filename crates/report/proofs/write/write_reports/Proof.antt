@@ -1,6 +1,9 @@
 -- `report::write::write_reports` meets its contract: the statistics count is four zero bytes.
+use Rattle.base.specs.Answer.{given, pick}
 use Rattle.bytes.specs.Numbers.{beBytes}
-use Rattle.report.specs.Writing.{reportsWritten}
+use Rattle.report.specs.Writing.{bodyWritten, reportsWritten, returnWritten}
+use Rattle.statistics.specs.StatisticBytes.{statisticsBytes, statisticsPart}
+use Rattle.statistics.specs.StatisticChecks.{checkedStatistics}
 use borrow.Author.Needs.{needs}
 use Rattle.report.proofs.write.write_reports.Statement.{statement}
 use Rattle.report.proofs.write.write_reports.Tie as tie
@@ -15,7 +18,7 @@ same-length : tie.Need-same-length
 same-length c = search needs
 
 returns : tie.Need-returns
-unfolding reportsWritten beBytes
+unfolding reportsWritten returnWritten bodyWritten checkedStatistics statisticsPart statisticsBytes beBytes pick given
 returns c = c .before .before .write-body .ensures
 
 pub write-reports-spec : {M : Type 1} → statement M
