@@ -126,6 +126,14 @@ statistics-answer-accepted b rs a es e k = rw e k
 
 -- ---- the body by its two halves
 
+pub reports-begun : (s : List ℕ) (at n p : ℕ) → countAt 0 8 s at ≡ ok n p → reportsAt s at ≡ manyAt reportAt n s p
+unfolding reportsAt then
+reports-begun s at n p e = rw e
+
+pub count-refused : (s : List ℕ) (at n : ℕ) → countAt 0 8 s at ≡ fault n → endOf (reportsAt s at) ≡ fault n
+unfolding reportsAt then endOf
+count-refused s at n e = rw e
+
 pub reports-accepted : (s : List ℕ) (at n p : ℕ) (rs : List Report) (q : ℕ) → countAt 0 8 s at ≡ ok n p → manyAt reportAt n s p ≡ ok rs q → reportsAt s at ≡ ok rs q
 unfolding reportsAt then
 reports-accepted s at n p rs q a b = rw (a, b)

@@ -21,7 +21,8 @@ ghost use Rattle.base.specs.Limits.{mostReports};
 ghost use Rattle.base.specs.Answer.{refused as refusedBy};
 ghost use Rattle.base.specs.Refusals.{faultNumber};
 ghost use Rattle.base.specs.Lists.{lengthOf, membersIn};
-ghost use Rattle.xdr.specs.Parsed.{manyAt};
+ghost use Rattle.xdr.specs.Answers.{parsedOfEnd};
+ghost use Rattle.xdr.specs.Parsed.{endOf, manyAt};
 ghost use Rattle.report.specs.Reports.{reportAt, reportBody, reportsAt, statisticsBody};
 ghost use Rattle.report.specs.Answers.{answerOfCount, arraysFrom, blankHead, headsOf, offsetsOf};
 ghost use Rattle.report.specs.Answers.{parsedOfArrays, statisticEntries};
@@ -166,6 +167,27 @@ pub fn read_reports(s: &[u8]) -> ReportsRead
     }
 }
 
+// Where the reports end: every report is judged, none is kept.
+fn reports_end(s: &[u8]) -> ReadEnd
+    ensures { λ r. ⌜ parsedOfEnd r ≡ endOf (reportsAt (now (s .entry)) 0) ⌝ }
+{
+    let count = xdr::read_count(s, Cursor { at: 0 }, 0, MOST_REPORTS);
+    let ReadU32::Value(n, first) = count else {
+        return ReadEnd::Refused(xdr::fault_of_u32(count));
+    };
+    let mut d = first;
+    let mut left = n;
+    while 0 < left {
+        let r = read_report(s, d);
+        let ReadReport::Value(_, _, e) = r else {
+            return ReadEnd::Refused(fault_of_report(r));
+        };
+        d = e;
+        left -= 1;
+    }
+    ReadEnd::Value(d)
+}
+
 fn refused_statistics(e: Fault) -> StatisticsRead
     ensures { λ r. ⌜ (answerOfCount (r .answer) ≡ refusedBy (faultNumber e))
         × (r .statistics ≡ statisticEntries []) ⌝ }
@@ -181,8 +203,7 @@ pub fn read_statistics(s: &[u8]) -> StatisticsRead
     ensures { λ r. ⌜ (answerOfCount (r .answer) ≡ lengthOf (statisticsBody (now (s .entry))))
         × (r .statistics ≡ statisticEntries (membersIn (statisticsBody (now (s .entry))))) ⌝ }
 {
-    let part = reports_part(s);
-    let end = part.end;
+    let end = reports_end(s);
     let ReadEnd::Value(c) = end else {
         return refused_statistics(xdr::fault_of_end(end));
     };
