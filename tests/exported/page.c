@@ -138,7 +138,7 @@ static void test_statistics(void)
     s = r.statistics[0];
     CHECK(s.update.write.ops_requested == 2 && s.update.write.bytes_requested == 8192);
     CHECK(s.update.write.ops_completed == 2 && s.update.write.bytes_completed == 5096);
-    CHECK(s.update.write.bytes_not_delivered == 3096 && s.update.write.busy.nanoseconds == 0);
+    CHECK(s.update.write.bytes_not_delivered == 0 && s.update.write.busy.nanoseconds == 0);
     CHECK(s.update.write.completion.seconds == 1 && s.update.write.completion.nanoseconds == 500000000);
     CHECK(s.update.read.ops_requested == 0 && s.read.count == 0);
     print_statistics(out, 284);
