@@ -1,4 +1,6 @@
 // A table as a record of plain numbers, in which it crosses to C and Rust: an enum cannot.
+#![tactic(auto)]
+
 mod from;
 mod into;
 mod types;

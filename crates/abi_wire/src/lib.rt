@@ -1,5 +1,7 @@
 // What the readers of the wire answer, as records of plain numbers, in which it crosses to C and Rust. An offset is
 // counted from the first byte of the body read. After a refusal all but its number is 0.
+#![tactic(auto)]
+
 mod bindings;
 mod devices;
 mod errors;

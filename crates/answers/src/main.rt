@@ -1,4 +1,6 @@
 // Reads a case file from standard input, puts each case to the core, and writes one line for each.
+#![tactic(auto)]
+
 mod case;
 mod corrupt_case;
 mod event_case;

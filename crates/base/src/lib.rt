@@ -1,5 +1,7 @@
 // What every layer shares: refusals with their numbers, iomodes, the three kinds of number, limits and sizes, the two
 // range rules, and functions of single numbers.
+#![tactic(auto)]
+
 mod bits;
 mod check;
 mod iomode;

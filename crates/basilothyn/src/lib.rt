@@ -1,5 +1,7 @@
 // What C and Rust link. A table goes in and comes out as a record of plain numbers, by value, and a refusal as its
 // number, 0 where there is none. A record that is no table is unsound.
+#![tactic(auto)]
+
 mod event;
 mod io;
 mod reports;

@@ -1,4 +1,6 @@
 // One data server of a layout bound to its device.
+#![tactic(auto)]
+
 mod bind_body;
 mod choice;
 mod entry;

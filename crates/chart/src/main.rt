@@ -1,5 +1,7 @@
 // Draws the stripe chart of a layout4 in a file: chart FILE [FIRST [UNITS]] [svg]
 // FIRST is the first offset shown, UNITS how many stripe units; svg draws a picture instead of text.
+#![tactic(auto)]
+
 mod arguments;
 mod columns;
 mod file;

@@ -11,6 +11,8 @@
 //
 // `accepted v` is an answer with its value, `refused n` a refusal with the scope paper's number, and `n ≡ 0 → ⊥` says
 // that n is not 0.
+#![tactic(auto)]
+
 ghost use Rattle.std.specs.Prelude.{ℕ, ◌+◌, ◌-◌, ◌*◌, ◌/◌, ◌%◌, ◌^◌, ◌<◌, ◌≤◌, ◌≡◌, ◌⊎◌, Bool, true, false, not, ◌&&◌, List, [], ◌∷◌, ◌++◌, map, get_or, length, replicate, take};
 ghost use Rattle.base.specs.Limits.{error_size, longest_statistic, most_servers, report_head_size, shortest_statistic};
 ghost use Rattle.base.specs.Answer.{accepted, refused, given};

@@ -1,4 +1,6 @@
 // The device body: the addresses of a data server (netaddr4) and the versions it takes (ff_device_versions4).
+#![tactic(auto)]
+
 mod address;
 mod body;
 mod netid;

@@ -1,4 +1,6 @@
 // The stripe chart of a layout, drawn in text or as an SVG picture.
+#![tactic(auto)]
+
 mod caption;
 mod columns;
 mod input;

@@ -1,4 +1,6 @@
 // Error reports, written from one borrowed list of error entries.
+#![tactic(auto)]
+
 ghost use Rattle.std.specs.Prelude.{◌≡◌, [], ◌∷◌, ◌++◌, ◌+◌, ◌*◌, ◌≤◌, min, length, take};
 ghost use Rattle.base.specs.Limits.{error_size, most_errors_in_all};
 ghost use Rattle.base.specs.Lists.{length_of};

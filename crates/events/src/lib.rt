@@ -1,5 +1,7 @@
 // The four events on a table and a body store. Each goes through five stages: soundness; the event's own bytes and
 // numbers; what the rights say; the edit; the store, which is written after the last test has passed.
+#![tactic(auto)]
+
 mod command;
 mod decision;
 mod event;

@@ -1,4 +1,6 @@
 // The layout body (ff_layout4).
+#![tactic(auto)]
+
 mod body;
 mod front_and_tail;
 mod mirrors;

@@ -1,4 +1,6 @@
 // A whole layout4 with a flexible file body.
+#![tactic(auto)]
+
 mod frame;
 mod whole;
 

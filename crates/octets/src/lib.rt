@@ -1,4 +1,6 @@
 // Numbers and runs of bytes: read off a slice, compared, tested for zeros, and stored into a buffer.
+#![tactic(auto)]
+
 mod compare;
 mod load;
 mod store_be;

@@ -1,4 +1,6 @@
 // Words and numbers, to standard output.
+#![tactic(auto)]
+
 mod cell;
 
 ghost use Rattle.std.specs.Prelude.{◌≤◌, length};

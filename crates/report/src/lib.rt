@@ -1,4 +1,6 @@
 // The body of `ff_layoutreturn4`, error reports and statistics, read and written.
+#![tactic(auto)]
+
 mod body;
 mod check;
 mod error;

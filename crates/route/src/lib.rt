@@ -1,5 +1,7 @@
 // Where an I/O goes: the right at its first byte, then the stripe, the piece and the mirrors of the layout body under
 // which that byte is held.
+#![tactic(auto)]
+
 mod mirrors;
 mod piece;
 mod request;

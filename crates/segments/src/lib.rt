@@ -1,4 +1,6 @@
 // The segments of a table: which bytes have which right, in each iomode.
+#![tactic(auto)]
+
 ghost use Rattle.std.specs.Prelude.{◌≡◌, min};
 ghost use Rattle.base.specs.Limits.{most_segments};
 ghost use Rattle.segments.specs.Segments.{acts_on, empty_table, kind_of, mode_of, same_right, segments_for};

@@ -1,4 +1,6 @@
 // One data server of a layout body.
+#![tactic(auto)]
+
 mod handles;
 mod head;
 mod item;

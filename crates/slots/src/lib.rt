@@ -1,4 +1,6 @@
 // Slots as table and body store have them: where a granted body goes, and the slots that no segment names any more.
+#![tactic(auto)]
+
 mod choice;
 mod clear;
 

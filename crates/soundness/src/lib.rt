@@ -1,4 +1,6 @@
 // Whether a table and a body store, whatever they are, are sound.
+#![tactic(auto)]
+
 ghost use Rattle.std.specs.Prelude.{◌≡◌};
 ghost use Rattle.layout.specs.Answers.{answer_of_layout, starts_in};
 ghost use Rattle.soundness.specs.Sound.{sound};

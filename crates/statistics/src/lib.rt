@@ -1,5 +1,7 @@
 // I/O statistics: the records `ff_iostats4` after the reports of a layout return, read and written. The structures are
 // those of RFC 8435, 9.2, and of RFC 7862 and RFC 8881 where it takes them from there; they cross to C as they are.
+#![tactic(auto)]
+
 mod check;
 mod encode;
 mod item;

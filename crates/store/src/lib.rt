@@ -1,4 +1,6 @@
 // The body store, eight slots in 32,768 borrowed bytes: what a slot holds, a body laid into it, and a slot cleared.
+#![tactic(auto)]
+
 ghost use Rattle.std.specs.Prelude.{◌≡◌, ◌*◌};
 ghost use Rattle.base.specs.Limits.{slot_size};
 

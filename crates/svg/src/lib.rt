@@ -1,4 +1,6 @@
 // The marks of a stripe chart as an SVG picture, to standard output.
+#![tactic(auto)]
+
 use print::{print_field, print_fields, print_text};
 
 // The picture's beginning.

@@ -1,4 +1,6 @@
 // The edits of a table's lists: the bytes of a range granted, cleared or recalled.
+#![tactic(auto)]
+
 mod builder;
 mod change;
 mod edit;

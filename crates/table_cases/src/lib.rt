@@ -1,4 +1,6 @@
 // The cases that show the table, the body store, and where an I/O goes by them. Each writes its line but for the end.
+#![tactic(auto)]
+
 mod locate_case;
 mod store_case;
 mod table_case;

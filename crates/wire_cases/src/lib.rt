@@ -1,4 +1,6 @@
 // The cases of bodies on the wire: each is put to the core, and its line is written but for the end.
+#![tactic(auto)]
+
 mod arrays;
 mod bind_case;
 mod device_case;

@@ -1,4 +1,6 @@
 // XDR items, read off a slice at a cursor.
+#![tactic(auto)]
+
 mod end;
 mod item;
 mod number;
