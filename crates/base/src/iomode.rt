@@ -20,6 +20,7 @@ pub enum ReadIomode {
 }
 
 // What a return and a recall may name.
+#[tactic(auto, unfolding(crate::specs::Iomodes::iomode_of, crate::specs::Answer::pick))]
 pub fn iomode_of(n: u32) -> ReadIomode
     ensures { answer_of_iomode result ≡ iomode_of n }
 {
@@ -32,6 +33,7 @@ pub fn iomode_of(n: u32) -> ReadIomode
 }
 
 // What a grant may name.
+#[tactic(auto, unfolding(crate::specs::Iomodes::iomode_of, crate::specs::Iomodes::grant_iomode_of, crate::specs::Answer::pick))]
 pub fn grant_iomode(n: u32) -> ReadIomode
     ensures { answer_of_iomode result ≡ grant_iomode_of n }
 {

@@ -22,6 +22,7 @@ pub const LARGEST_SUM: u64 = 18446744073709551615;
 // The length that means through the last byte, from any offset.
 pub const TO_THE_END: u64 = 18446744073709551615;
 
+#[tactic(auto, unfolding(crate::specs::Ranges::range_last, crate::specs::Answer::pick))]
 pub fn range_last(offset: u64, len: u64) -> RangeEnd
     ensures { answer_of_range_end result ≡ range_last offset len }
 {
@@ -31,6 +32,7 @@ pub fn range_last(offset: u64, len: u64) -> RangeEnd
     request_last(offset, len)
 }
 
+#[tactic(auto, unfolding(crate::specs::Ranges::request_last, crate::specs::Answer::pick))]
 pub fn request_last(offset: u64, len: u64) -> RangeEnd
     ensures { answer_of_range_end result ≡ request_last offset len }
 {
