@@ -1,6 +1,5 @@
 pub mod ReportLaws
 pub mod EntryLaws
-pub mod ErrorLaws
 pub mod StoringLaws
 pub mod Written
 pub mod ReadBack
