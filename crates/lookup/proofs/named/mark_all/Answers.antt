@@ -15,7 +15,7 @@ use Rattle.lookup.proofs.named.mark_all.Goals as goal
 pub loop-k-preserved : goal.loop-k-preserved
 loop-k-preserved c =
     let l = c.loop-k in
-    let g = c.args.t2 in
+    let g = c.args.g in
     let h : length g.items ≡ 32 = search (rules, mapped_long) in
     let e : length (list_of g) ≡ min g.count 32 = length_used g h in (
       omega arith,
@@ -28,7 +28,7 @@ loop-k-preserved c =
 pub returns : goal.returns
 returns c =
     let l = c.loop-k in
-    let g = c.args.t2 in
+    let g = c.args.g in
     let h : length g.items ≡ 32 = search (rules, mapped_long) in
     let e : length (list_of g) ≡ min g.count 32 = length_used g h in
     record {

@@ -15,7 +15,7 @@ unfolding any_meets
 returns-then-hits c =
     let l = c.loop-k in
     let a = c.args in
-    let g = a.t1 in
+    let g = a.g in
     let h : length g.items ≡ 32 = search (rules, mapped_long) in
     let e : length (list_of g) ≡ min g.count 32 = length_used g h in
     rw (l.invariant.1, next_segment g l.k blank (omega arith), sym c.hits.ensures ∙ c.if-hits.true)
@@ -25,7 +25,7 @@ unfolding any_meets
 loop-k-preserved c =
     let l = c.loop-k in
     let a = c.args in
-    let g = a.t1 in
+    let g = a.g in
     let h : length g.items ≡ 32 = search (rules, mapped_long) in
     let e : length (list_of g) ≡ min g.count 32 = length_used g h in
     (omega arith, rw (l.invariant.1, next_segment g l.k blank (omega arith), sym c.hits.ensures ∙ c.if-hits.false))
@@ -35,7 +35,7 @@ unfolding any_meets
 returns c =
     let l = c.loop-k in
     let a = c.args in
-    let g = a.t1 in
+    let g = a.g in
     let h : length g.items ≡ 32 = search (rules, mapped_long) in
     let e : length (list_of g) ≡ min g.count 32 = length_used g h in
     rw (l.invariant.1, no_segment g l.k (omega arith))
