@@ -1,7 +1,7 @@
 pub mod ReportLaws
 pub mod EntryLaws
 pub mod StoringLaws
-pub mod Written
+pub mod WrittenLaws
 pub mod ReadBack
 pub mod ReturnRoundTrip
 pub mod ReturnLaws
