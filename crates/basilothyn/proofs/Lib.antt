@@ -2,4 +2,3 @@ pub mod CallLaws
 pub mod RecordUnchanged
 pub mod RecordDemand
 pub mod WriteReportLaws
-pub mod FieldArray
