@@ -8,20 +8,20 @@ use crate::types::{SegmentRecord, TableRecord};
 use base::{MOST_SEGMENTS, SlotNumber};
 use segments::{BLANK, Right, Segment, Segments, Table};
 
-#[derive(Drop)]
+#[derive(Clone, Copy)]
 pub enum ReadRight {
     Value(Right),
     Unknown,
 }
 
-#[derive(Drop)]
+#[derive(Clone, Copy)]
 pub enum ReadSegment {
     Value(Segment),
     Unknown,
 }
 
 // The empty table where the record stands for none.
-#[derive(Drop)]
+#[derive(Clone, Copy)]
 pub struct Decoded {
     pub table: Table,
     pub valid: bool,

@@ -3,7 +3,7 @@ use base::MOST_SEGMENTS;
 
 // The kind of a right is 0 for none, 1 for granted, 2 for recalled; with none the slot is 0.
 #[repr(C)]
-#[derive(Drop)]
+#[derive(Clone, Copy)]
 pub struct SegmentRecord {
     pub first: u64,
     pub last: u64,
@@ -13,7 +13,7 @@ pub struct SegmentRecord {
 
 // All 32 entries of each iomode are there, used or not.
 #[repr(C)]
-#[derive(Drop)]
+#[derive(Clone, Copy)]
 pub struct TableRecord {
     pub read: [SegmentRecord; MOST_SEGMENTS],
     pub rw: [SegmentRecord; MOST_SEGMENTS],

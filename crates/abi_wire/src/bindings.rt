@@ -9,7 +9,7 @@ use binding::Binding;
 
 // Offsets in the layout body. Tightly coupled, user and group are not used and 0; else the stateid is.
 #[repr(C)]
-#[derive(Drop)]
+#[derive(Clone, Copy)]
 pub struct BindResult {
     pub refusal: u32,
     pub entry: u32,

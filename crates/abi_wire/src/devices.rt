@@ -10,7 +10,7 @@ use device::{Address, DeviceAnswer, DeviceRead, NetidClass, Version};
 
 // The class of the netid is 0 for other, 1 tcp, 2 tcp6, 3 udp, 4 udp6, 5 rdma, 6 rdma6.
 #[repr(C)]
-#[derive(Drop)]
+#[derive(Clone, Copy)]
 pub struct AddressRecord {
     pub class: u32,
     pub text: PartRecord,
@@ -18,7 +18,7 @@ pub struct AddressRecord {
 
 // Tightly coupled is 1, loosely 0.
 #[repr(C)]
-#[derive(Drop)]
+#[derive(Clone, Copy)]
 pub struct VersionRecord {
     pub version: u32,
     pub minor: u32,
@@ -28,7 +28,7 @@ pub struct VersionRecord {
 }
 
 #[repr(C)]
-#[derive(Drop)]
+#[derive(Clone, Copy)]
 pub struct DeviceResult {
     pub refusal: u32,
     pub address_count: u32,

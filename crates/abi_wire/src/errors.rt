@@ -7,7 +7,7 @@ use report::ReadError;
 
 // The 16 bytes of the device id are at the offset `device`.
 #[repr(C)]
-#[derive(Drop)]
+#[derive(Clone, Copy)]
 pub struct ErrorResult {
     pub refusal: u32,
     pub device: usize,

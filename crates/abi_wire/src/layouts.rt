@@ -10,14 +10,14 @@ use layout4::{Layout4Answer, Layout4Read};
 use xdr::Part;
 
 #[repr(C)]
-#[derive(Drop)]
+#[derive(Clone, Copy)]
 pub struct PartRecord {
     pub start: usize,
     pub len: usize,
 }
 
 #[repr(C)]
-#[derive(Drop)]
+#[derive(Clone, Copy)]
 pub struct SummaryRecord {
     pub unit: u64,
     pub mirrors: u32,
@@ -28,7 +28,7 @@ pub struct SummaryRecord {
 
 // The start of a data server is at the index mirror * 16 + stripe.
 #[repr(C)]
-#[derive(Drop)]
+#[derive(Clone, Copy)]
 pub struct LayoutResult {
     pub refusal: u32,
     pub summary: SummaryRecord,
@@ -36,7 +36,7 @@ pub struct LayoutResult {
 }
 
 #[repr(C)]
-#[derive(Drop)]
+#[derive(Clone, Copy)]
 pub struct Layout4Result {
     pub refusal: u32,
     pub iomode: u32,

@@ -7,7 +7,7 @@ use report::{CountAnswer, ReportHead, ReportsRead};
 
 // The first error of each report is at its offset in errors_at.
 #[repr(C)]
-#[derive(Drop)]
+#[derive(Clone, Copy)]
 pub struct ReportsResult {
     pub refusal: u32,
     pub count: u32,

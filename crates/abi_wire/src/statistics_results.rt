@@ -7,7 +7,7 @@ use report::{CountAnswer, StatisticsRead};
 use statistics::{NO_STATISTIC, Statistic};
 
 #[repr(C)]
-#[derive(Drop)]
+#[derive(Clone, Copy)]
 pub struct StatisticsResult {
     pub refusal: u32,
     pub count: u32,

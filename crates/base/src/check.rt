@@ -6,7 +6,7 @@ ghost use Rattle.base.specs.Refusals.{fault_number};
 
 use crate::refusal::Fault;
 
-#[derive(Drop)]
+#[derive(Clone, Copy)]
 pub enum Check {
     Allowed,
     Refused(Fault),

@@ -6,14 +6,14 @@ ghost use Rattle.base.specs.Refusals.{fault_number};
 
 use crate::refusal::Fault;
 
-#[derive(Drop)]
+#[derive(Clone, Copy)]
 pub enum Iomode {
     Read,
     ReadWrite,
     Any,
 }
 
-#[derive(Drop)]
+#[derive(Clone, Copy)]
 pub enum ReadIomode {
     Value(Iomode),
     Refused(Fault),

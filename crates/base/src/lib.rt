@@ -32,13 +32,13 @@ pub use refusal::{Fault, Refusal, fault_number, number};
 pub use wide::{wide8, wide16};
 
 // A mirror's number among the mirrors of a layout.
-#[derive(Drop)]
+#[derive(Clone, Copy)]
 pub struct MirrorNumber(pub u32);
 
 // A data server's number among the servers of a mirror.
-#[derive(Drop)]
+#[derive(Clone, Copy)]
 pub struct StripeNumber(pub u32);
 
 // A slot's number in the body store.
-#[derive(Drop)]
+#[derive(Clone, Copy)]
 pub struct SlotNumber(pub u32);

@@ -7,7 +7,7 @@ ghost use Rattle.base.specs.Refusals.{fault_number};
 use crate::refusal::Fault;
 
 // The last byte of a range or an I/O request.
-#[derive(Drop)]
+#[derive(Clone, Copy)]
 pub enum RangeEnd {
     At(u64),
     Refused(Fault),

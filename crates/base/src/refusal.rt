@@ -3,7 +3,7 @@ ghost use Rattle.std.specs.Prelude.{◌≡◌};
 ghost use Rattle.base.specs.Refusals.{fault_number, number_of};
 
 // What a reader of bytes and numbers finds wrong with them.
-#[derive(Drop)]
+#[derive(Clone, Copy)]
 pub enum Fault {
     BytesRunOut,
     BytesLeftOver,
@@ -22,7 +22,7 @@ pub enum Fault {
 }
 
 // What a call answers: a reader's fault, or a refusal of its own.
-#[derive(Drop)]
+#[derive(Clone, Copy)]
 pub enum Refusal {
     Fault(Fault),
     BindingDiffers,

@@ -10,7 +10,7 @@ use base::Refusal;
 use events::{Event, Numbers, Outcome, Verdict};
 
 #[repr(C)]
-#[derive(Drop)]
+#[derive(Clone, Copy)]
 pub struct EventResult {
     pub refusal: u32,
     pub table: TableRecord,

@@ -11,7 +11,7 @@ use route::Located;
 
 // The mirrors are a set of bits, bit 0 being mirror 0. After a refusal all else is 0.
 #[repr(C)]
-#[derive(Drop)]
+#[derive(Clone, Copy)]
 pub struct LocateResult {
     pub refusal: u32,
     pub iomode: u32,

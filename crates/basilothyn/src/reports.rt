@@ -12,14 +12,14 @@ use report::{Outgoing, ReportHead, Written};
 
 // C passes no array by value.
 #[repr(C)]
-#[derive(Drop)]
+#[derive(Clone, Copy)]
 pub struct ReportHeads {
     pub heads: [ReportHead; REPORT_ENTRIES],
 }
 
 // The length is 0 after a refusal.
 #[repr(C)]
-#[derive(Drop)]
+#[derive(Clone, Copy)]
 pub struct WriteResult {
     pub refusal: u32,
     pub length: u64,

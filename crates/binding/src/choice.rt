@@ -11,7 +11,7 @@ use base::{Fault, LONGEST_FILEHANDLE, Refusal, VERSION_ENTRIES};
 use device::Version;
 use xdr::{Cursor, ReadEnd, ReadPart};
 
-#[derive(Drop)]
+#[derive(Clone, Copy)]
 pub enum Choice {
     Entry(u32),
     Refused(Refusal),

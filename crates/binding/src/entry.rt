@@ -12,7 +12,7 @@ use xdr::{Cursor, Part, ReadPart};
 
 // The entry's number and fields, and its filehandle. A tightly coupled entry has the offset of the stateid, another
 // one user and group; what is not used is 0.
-#[derive(Drop)]
+#[derive(Clone, Copy)]
 pub struct Bound {
     pub entry: u32,
     pub version: Version,
@@ -22,7 +22,7 @@ pub struct Bound {
     pub group: Part,
 }
 
-#[derive(Drop)]
+#[derive(Clone, Copy)]
 pub enum Binding {
     Value(Bound),
     Refused(Refusal),

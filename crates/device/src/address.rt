@@ -10,13 +10,13 @@ use base::{Fault, LONGEST_ADDRESS, LONGEST_NETID};
 use xdr::{Cursor, Part, ReadPart};
 
 // The class of the netid, and where the address text is in the body.
-#[derive(Drop)]
+#[derive(Clone, Copy)]
 pub struct Address {
     pub class: NetidClass,
     pub text: Part,
 }
 
-#[derive(Drop)]
+#[derive(Clone, Copy)]
 pub(crate) enum ReadAddress {
     Value(Address, Cursor),
     Refused(Fault),

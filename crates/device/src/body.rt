@@ -15,14 +15,14 @@ use base::{
 use xdr::{Cursor, Part, ReadU32};
 
 // How many addresses and versions there are.
-#[derive(Drop)]
+#[derive(Clone, Copy)]
 pub enum DeviceAnswer {
     Counts(u32, u32),
     Refused(Fault),
 }
 
 // Unused entries are blank, and all of them after a refusal.
-#[derive(Drop)]
+#[derive(Clone, Copy)]
 pub struct DeviceRead {
     pub answer: DeviceAnswer,
     pub addresses: [Address; ADDRESS_ENTRIES],
@@ -30,14 +30,14 @@ pub struct DeviceRead {
 }
 
 // The count, and the addresses in the first entries.
-#[derive(Drop)]
+#[derive(Clone, Copy)]
 struct AddressList {
     answer: ReadU32,
     entries: [Address; ADDRESS_ENTRIES],
 }
 
 // The count, and the versions in the first entries.
-#[derive(Drop)]
+#[derive(Clone, Copy)]
 struct VersionList {
     answer: ReadU32,
     entries: [Version; VERSION_ENTRIES],

@@ -2,7 +2,7 @@
 ghost use Rattle.std.specs.Prelude.{◌≡◌};
 ghost use Rattle.device.specs.Netids.{class_of};
 
-#[derive(Drop)]
+#[derive(Clone, Copy)]
 pub enum NetidClass {
     Other,
     Tcp,

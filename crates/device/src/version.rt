@@ -8,7 +8,7 @@ ghost use Rattle.device.specs.VersionAnswers.{parsed_of_version};
 use base::Fault;
 use xdr::{Cursor, ReadBool, ReadU32};
 
-#[derive(Drop)]
+#[derive(Clone, Copy)]
 pub struct Version {
     pub version: u32,
     pub minor: u32,
@@ -17,7 +17,7 @@ pub struct Version {
     pub tight: bool,
 }
 
-#[derive(Drop)]
+#[derive(Clone, Copy)]
 pub(crate) enum ReadVersion {
     Value(Version, Cursor),
     Refused(Fault),

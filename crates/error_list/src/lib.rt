@@ -13,7 +13,7 @@ use report::{Outgoing, ReportHead, Written};
 
 // One error of the list, laid out as a caller in C lays it out.
 #[repr(C)]
-#[derive(Drop)]
+#[derive(Clone, Copy)]
 pub struct ErrorEntry {
     pub device: [u8; DEVICE_ID_SIZE],
     pub status: u32,

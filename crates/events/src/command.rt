@@ -11,7 +11,7 @@ use layout4::Layout4Answer;
 use segments::Span;
 use xdr::Part;
 
-#[derive(Drop)]
+#[derive(Clone, Copy)]
 pub(crate) enum Action {
     Grant,
     Return,
@@ -22,7 +22,7 @@ pub(crate) enum Action {
 // The span's first byte and len are the offset and the length as the event gives them; of a revoke, which gives none,
 // 0 and TO_THE_END. `body` is where a grant's body is in its bytes; of any other event start and
 // length are 0.
-#[derive(Drop)]
+#[derive(Clone, Copy)]
 pub(crate) struct Command {
     pub action: Action,
     pub span: Span,
@@ -30,7 +30,7 @@ pub(crate) struct Command {
     pub body: Part,
 }
 
-#[derive(Drop)]
+#[derive(Clone, Copy)]
 pub(crate) enum ReadCommand {
     Value(Command),
     Refused(Fault),

@@ -16,7 +16,7 @@ use slots::SlotChoice;
 
 // What a command does: a grant under the slot that holds its body, a grant whose body goes into a free slot, bytes
 // that become none, and a recall.
-#[derive(Drop)]
+#[derive(Clone, Copy)]
 pub enum Update {
     GrantKnown(SlotNumber),
     GrantNew(SlotNumber),
@@ -24,7 +24,7 @@ pub enum Update {
     Recall,
 }
 
-#[derive(Drop)]
+#[derive(Clone, Copy)]
 pub(crate) enum Decision {
     Allowed(Update),
     Refused(Refusal),

@@ -12,7 +12,7 @@ use crate::mirrors::read_mirrors;
 use base::{Fault, LONGEST_BODY, MOST_STARTS};
 use xdr::{Cursor, ReadEnd};
 
-#[derive(Drop)]
+#[derive(Clone, Copy)]
 pub struct Summary {
     pub unit: u64,
     pub mirrors: u32,
@@ -21,14 +21,14 @@ pub struct Summary {
     pub hint: u32,
 }
 
-#[derive(Drop)]
+#[derive(Clone, Copy)]
 pub enum LayoutAnswer {
     Value(Summary),
     Refused(Fault),
 }
 
 // The start of a data server is at the index mirror * 16 + stripe. Unused entries are 0, and all after a refusal.
-#[derive(Drop)]
+#[derive(Clone, Copy)]
 pub struct LayoutRead {
     pub answer: LayoutAnswer,
     pub starts: [u16; MOST_STARTS],

@@ -9,26 +9,26 @@ use base::{Fault, KNOWN_FLAGS, MOST_MIRRORS, MOST_SERVERS};
 use xdr::{Cursor, ReadU32, ReadU64};
 
 // The stripe unit, the mirror count and the first mirror's server count.
-#[derive(Drop)]
+#[derive(Clone, Copy)]
 pub struct Front {
     pub unit: u64,
     pub mirrors: u32,
     pub servers: u32,
 }
 
-#[derive(Drop)]
+#[derive(Clone, Copy)]
 pub enum ReadFront {
     Value(Front, Cursor),
     Refused(Fault),
 }
 
-#[derive(Drop)]
+#[derive(Clone, Copy)]
 pub struct Tail {
     pub flags: u32,
     pub hint: u32,
 }
 
-#[derive(Drop)]
+#[derive(Clone, Copy)]
 pub enum ReadTail {
     Value(Tail, Cursor),
     Refused(Fault),

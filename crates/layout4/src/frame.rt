@@ -11,14 +11,14 @@ use xdr::{Cursor, Range, ReadRange, ReadU32};
 // A body's length as it is read.
 const LONGEST_SIZE: u32 = LONGEST_BODY as u32;
 
-#[derive(Drop)]
+#[derive(Clone, Copy)]
 pub struct Frame {
     pub range: Range,
     pub iomode: Iomode,
     pub size: u32,
 }
 
-#[derive(Drop)]
+#[derive(Clone, Copy)]
 pub enum ReadFrame {
     Value(Frame, Cursor),
     Refused(Fault),

@@ -12,7 +12,7 @@ use layout::{LayoutAnswer, Summary};
 use xdr::{Cursor, Part, ReadPart};
 
 // Offset and length as on the wire, the last byte, and where the body is.
-#[derive(Drop)]
+#[derive(Clone, Copy)]
 pub struct Layout4 {
     pub offset: u64,
     pub length: u64,
@@ -21,14 +21,14 @@ pub struct Layout4 {
     pub body: Part,
 }
 
-#[derive(Drop)]
+#[derive(Clone, Copy)]
 pub enum Layout4Answer {
     Value(Layout4, Summary),
     Refused(Fault),
 }
 
 // The starts are the body's, counted from its first byte; all 0 after a refusal.
-#[derive(Drop)]
+#[derive(Clone, Copy)]
 pub struct Layout4Read {
     pub answer: Layout4Answer,
     pub starts: [u16; MOST_STARTS],

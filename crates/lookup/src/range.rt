@@ -7,7 +7,7 @@ use base::SlotNumber;
 use segments::{Right, Segment, Segments, Span, Table};
 
 // What is asked of a right.
-#[derive(Drop)]
+#[derive(Clone, Copy)]
 pub enum Condition {
     Held,
     // Under another slot than this.

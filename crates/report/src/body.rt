@@ -17,7 +17,7 @@ use statistics::{NO_STATISTIC, Statistic};
 use xdr::{Cursor, ReadEnd, ReadU32};
 
 // How many reports or records of statistics there are.
-#[derive(Drop)]
+#[derive(Clone, Copy)]
 pub enum CountAnswer {
     Count(u32),
     Refused(Fault),
@@ -25,7 +25,7 @@ pub enum CountAnswer {
 
 // The reports' heads, and where the first error of each is. Entries past the count are blank, and so is each after
 // a refusal.
-#[derive(Drop)]
+#[derive(Clone, Copy)]
 pub struct ReportsRead {
     pub answer: CountAnswer,
     pub heads: [ReportHead; REPORT_ENTRIES],
@@ -33,14 +33,14 @@ pub struct ReportsRead {
 }
 
 // The records of statistics. Entries past the count are blank, and so is each after a refusal.
-#[derive(Drop)]
+#[derive(Clone, Copy)]
 pub struct StatisticsRead {
     pub answer: CountAnswer,
     pub statistics: [Statistic; STATISTIC_ENTRIES],
 }
 
 // The first half of the body: how many reports it has, and the same arrays; `end` is the offset after the reports.
-#[derive(Drop)]
+#[derive(Clone, Copy)]
 pub struct Arrays {
     pub end: ReadEnd,
     pub count: u32,

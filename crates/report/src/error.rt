@@ -11,7 +11,7 @@ use crate::{ERROR_OPERATION_OFFSET, ERROR_STATUS_OFFSET, ErrorItem};
 use base::{DEVICE_ID_SIZE, ERROR_SIZE, Fault};
 use xdr::{Cursor, ReadEnd, ReadPart, ReadU32};
 
-#[derive(Drop)]
+#[derive(Clone, Copy)]
 pub enum ReadError {
     Value(ErrorItem, Cursor),
     Refused(Fault),

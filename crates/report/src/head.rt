@@ -13,7 +13,7 @@ use base::{Fault, MOST_ERRORS, STATEID_SIZE};
 use xdr::{Cursor, ReadEnd, ReadPart, ReadRange, ReadU32};
 
 // A `ReportHead` whose stateid is still in the bytes: `stateid` is its offset.
-#[derive(Drop)]
+#[derive(Clone, Copy)]
 pub struct HeadItem {
     pub offset: u64,
     pub length: u64,
@@ -21,14 +21,14 @@ pub struct HeadItem {
     pub errors: u32,
 }
 
-#[derive(Drop)]
+#[derive(Clone, Copy)]
 pub enum ReadReportHead {
     Value(HeadItem, Cursor),
     Refused(Fault),
 }
 
 // What is before the errors, where the first error is, and the offset after the report.
-#[derive(Drop)]
+#[derive(Clone, Copy)]
 pub enum ReadReport {
     Value(HeadItem, usize, Cursor),
     Refused(Fault),

@@ -17,7 +17,7 @@ pub use write::{Written, write_reports, write_return};
 
 // What is before the errors of a report. `errors` is how many errors follow. It crosses to C as it is.
 #[repr(C)]
-#[derive(Drop)]
+#[derive(Clone, Copy)]
 pub struct ReportHead {
     pub offset: u64,
     pub length: u64,
@@ -27,7 +27,7 @@ pub struct ReportHead {
 
 // What is to be written, but for the errors. Entries from a count on are not looked at. It crosses to C as it is.
 #[repr(C)]
-#[derive(Drop)]
+#[derive(Clone, Copy)]
 pub struct Outgoing {
     pub count: u32,
     pub heads: [ReportHead; REPORT_ENTRIES],
@@ -48,7 +48,7 @@ pub const ERROR_STATUS_OFFSET: usize = base::DEVICE_ID_SIZE;
 pub const ERROR_OPERATION_OFFSET: usize = ERROR_STATUS_OFFSET + 4;
 
 // One error. `device` is the offset of its device id.
-#[derive(Drop)]
+#[derive(Clone, Copy)]
 pub struct ErrorItem {
     pub device: usize,
     pub status: u32,

@@ -14,7 +14,7 @@ use base::{
 };
 use statistics::EncodedAnswer;
 
-#[derive(Drop)]
+#[derive(Clone, Copy)]
 pub enum Written {
     Length(usize),
     Refused(Refusal),

@@ -3,7 +3,7 @@ use base::{Iomode, Refusal, SlotNumber, StripeNumber};
 
 // The part of a request that one data server of each named mirror takes. The mirrors are a set of bits, bit 0 being
 // mirror 0.
-#[derive(Drop)]
+#[derive(Clone, Copy)]
 pub struct Piece {
     pub iomode: Iomode,
     pub slot: SlotNumber,
@@ -13,7 +13,7 @@ pub struct Piece {
     pub mirrors: u32,
 }
 
-#[derive(Drop)]
+#[derive(Clone, Copy)]
 pub enum Located {
     At(Piece),
     Refused(Refusal),

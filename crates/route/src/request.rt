@@ -13,7 +13,7 @@ use layout::{LayoutAnswer, Summary};
 use segments::Table;
 
 // What serves a request: a grant, and the layout body in its slot.
-#[derive(Drop)]
+#[derive(Clone, Copy)]
 pub struct Serving {
     pub grant: Grant,
     pub summary: Summary,

@@ -9,7 +9,7 @@ use base::{Iomode, MOST_SEGMENTS, SlotNumber};
 use segments::{Right, Segment, Segments, Table};
 
 // A granted segment: its iomode, the slot of its body, and its last byte.
-#[derive(Drop)]
+#[derive(Clone, Copy)]
 pub struct Grant {
     pub iomode: Iomode,
     pub slot: SlotNumber,
@@ -17,7 +17,7 @@ pub struct Grant {
 }
 
 // Missing is 17.
-#[derive(Drop)]
+#[derive(Clone, Copy)]
 pub enum GrantAnswer {
     Value(Grant),
     Missing,

@@ -9,7 +9,7 @@ ghost use Rattle.segments.specs.Segments.{slot_number_of};
 use base::{Iomode, MOST_SEGMENTS, SlotNumber};
 
 // The number names the slot of the layout body under which the bytes are held.
-#[derive(Drop)]
+#[derive(Clone, Copy)]
 pub enum Right {
     None,
     Granted(SlotNumber),
@@ -17,7 +17,7 @@ pub enum Right {
 }
 
 // The bytes from first to last, both included.
-#[derive(Drop)]
+#[derive(Clone, Copy)]
 pub struct Segment {
     pub first: u64,
     pub last: u64,
@@ -25,20 +25,20 @@ pub struct Segment {
 }
 
 // The segments of one iomode, in the first count entries.
-#[derive(Drop)]
+#[derive(Clone, Copy)]
 pub struct Segments {
     pub items: [Segment; MOST_SEGMENTS],
     pub count: usize,
 }
 
-#[derive(Drop)]
+#[derive(Clone, Copy)]
 pub struct Table {
     pub read: Segments,
     pub rw: Segments,
 }
 
 // The bytes from first to last, both included, in an iomode or, for ANY, in both.
-#[derive(Drop)]
+#[derive(Clone, Copy)]
 pub struct Span {
     pub iomode: Iomode,
     pub first: u64,

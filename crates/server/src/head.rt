@@ -9,7 +9,7 @@ use base::{DEVICE_ID_SIZE, Fault, MOST_FILEHANDLES, STATEID_SIZE};
 use xdr::{Cursor, ReadPart, ReadU32};
 
 // Device id and stateid by their offsets.
-#[derive(Drop)]
+#[derive(Clone, Copy)]
 pub struct ServerHead {
     pub device: usize,
     pub efficiency: u32,
@@ -17,7 +17,7 @@ pub struct ServerHead {
     pub handles: u32,
 }
 
-#[derive(Drop)]
+#[derive(Clone, Copy)]
 pub enum ReadServerHead {
     Value(ServerHead, Cursor),
     Refused(Fault),

@@ -11,7 +11,7 @@ use base::{Fault, LONGEST_NAME};
 use xdr::{Cursor, Part, ReadEnd, ReadPart};
 
 // Device id, stateid and the first filehandle's length by their offsets.
-#[derive(Drop)]
+#[derive(Clone, Copy)]
 pub struct Server {
     pub device: usize,
     pub efficiency: u32,
@@ -22,7 +22,7 @@ pub struct Server {
     pub group: Part,
 }
 
-#[derive(Drop)]
+#[derive(Clone, Copy)]
 pub enum ReadServer {
     Value(Server, Cursor),
     Refused(Fault),

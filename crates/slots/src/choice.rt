@@ -7,7 +7,7 @@ ghost use Rattle.slots.specs.Slots.{free_choice, slot_choice, is_set};
 use base::{SLOT_COUNT, SLOT_ENTRIES, SlotNumber};
 
 // The slot that holds a body; else the lowest one that no segment names; else none.
-#[derive(Drop)]
+#[derive(Clone, Copy)]
 pub enum SlotChoice {
     Holding(SlotNumber),
     Free(SlotNumber),

@@ -17,7 +17,7 @@ use layout::{LayoutAnswer, LayoutRead};
 // `read` is what the layout body in one slot reads as, the one that was asked for: a lookup would read it again. Where
 // nothing was read, it is refused as no bytes at all are, and its starts are 0. `named` says of each slot whether a
 // segment names it; of an unsound table none.
-#[derive(Drop)]
+#[derive(Clone, Copy)]
 pub struct Validation {
     pub read: LayoutRead,
     pub named: [bool; SLOT_ENTRIES],

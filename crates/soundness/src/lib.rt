@@ -16,7 +16,7 @@ mod lists;
 pub use bodies::Validation;
 
 // The verdict, and which slots segments name; of an unsound table none.
-#[derive(Drop)]
+#[derive(Clone, Copy)]
 pub struct Soundness {
     pub named: [bool; SLOT_ENTRIES],
     pub sound: bool,

@@ -12,14 +12,14 @@ use crate::put::put_statistic;
 use base::{Check, Fault, LONGEST_STATISTICS, MOST_STATISTICS, STATISTIC_ENTRIES};
 
 // How many of the bytes are used.
-#[derive(Drop)]
+#[derive(Clone, Copy)]
 pub enum EncodedAnswer {
     Length(usize),
     Refused(Fault),
 }
 
 // The bytes past the length are 0, and so is each after a refusal.
-#[derive(Drop)]
+#[derive(Clone, Copy)]
 pub struct EncodedStatistics {
     pub answer: EncodedAnswer,
     pub bytes: [u8; LONGEST_STATISTICS],

@@ -12,7 +12,7 @@ use base::{DEVICE_ID_SIZE, Fault, STATEID_SIZE};
 use xdr::{Cursor, Range, ReadPart, ReadRange};
 
 // A `Statistic` whose bytes are still in the body: `stateid` and `device` are offsets.
-#[derive(Drop)]
+#[derive(Clone, Copy)]
 pub struct StatisticItem {
     pub range: Range,
     pub stateid: usize,
@@ -22,7 +22,7 @@ pub struct StatisticItem {
     pub update: UpdateItem,
 }
 
-#[derive(Drop)]
+#[derive(Clone, Copy)]
 pub(crate) enum ReadItem {
     Value(StatisticItem, Cursor),
     Refused(Fault),

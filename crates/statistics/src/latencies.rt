@@ -13,13 +13,13 @@ use xdr::{Cursor, ReadPart, ReadU64};
 // The five numbers before the times of a latency.
 const COUNTERS_SIZE: usize = 40;
 
-#[derive(Drop)]
+#[derive(Clone, Copy)]
 pub(crate) enum ReadIoInfo {
     Value(IoInfo, Cursor),
     Refused(Fault),
 }
 
-#[derive(Drop)]
+#[derive(Clone, Copy)]
 pub(crate) enum ReadLatency {
     Value(Latency, Cursor),
     Refused(Fault),

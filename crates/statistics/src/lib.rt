@@ -18,7 +18,7 @@ pub use list::{NO_STATISTIC, StatisticList, read_list, statistics_end};
 
 // `nfstime4`. Seconds are signed on the wire: a number of 2^63 or more is negative.
 #[repr(C)]
-#[derive(Drop)]
+#[derive(Clone, Copy)]
 pub struct Time {
     pub seconds: u64,
     pub nanoseconds: u32,
@@ -26,7 +26,7 @@ pub struct Time {
 
 // `io_info4`
 #[repr(C)]
-#[derive(Drop)]
+#[derive(Clone, Copy)]
 pub struct IoInfo {
     pub count: u64,
     pub bytes: u64,
@@ -34,7 +34,7 @@ pub struct IoInfo {
 
 // `ff_io_latency4`
 #[repr(C)]
-#[derive(Drop)]
+#[derive(Clone, Copy)]
 pub struct Latency {
     pub ops_requested: u64,
     pub bytes_requested: u64,
@@ -47,21 +47,21 @@ pub struct Latency {
 
 // Of the bytes of a netid, an address and a filehandle the first `length` count; the others are spare.
 #[repr(C)]
-#[derive(Drop)]
+#[derive(Clone, Copy)]
 pub struct Netid {
     pub length: u32,
     pub bytes: [u8; NETID_SIZE],
 }
 
 #[repr(C)]
-#[derive(Drop)]
+#[derive(Clone, Copy)]
 pub struct AddressText {
     pub length: u32,
     pub bytes: [u8; ADDRESS_SIZE],
 }
 
 #[repr(C)]
-#[derive(Drop)]
+#[derive(Clone, Copy)]
 pub struct Filehandle {
     pub length: u32,
     pub bytes: [u8; FILEHANDLE_SIZE],
@@ -69,7 +69,7 @@ pub struct Filehandle {
 
 // `netaddr4`
 #[repr(C)]
-#[derive(Drop)]
+#[derive(Clone, Copy)]
 pub struct Netaddr {
     pub netid: Netid,
     pub text: AddressText,
@@ -77,7 +77,7 @@ pub struct Netaddr {
 
 // `ff_layoutupdate4`. `local` is 0 or 1.
 #[repr(C)]
-#[derive(Drop)]
+#[derive(Clone, Copy)]
 pub struct LayoutUpdate {
     pub address: Netaddr,
     pub filehandle: Filehandle,
@@ -89,7 +89,7 @@ pub struct LayoutUpdate {
 
 // `ff_iostats4`
 #[repr(C)]
-#[derive(Drop)]
+#[derive(Clone, Copy)]
 pub struct Statistic {
     pub offset: u64,
     pub length: u64,

@@ -16,7 +16,7 @@ use base::{
 use xdr::{Cursor, ReadEnd, ReadU32};
 
 // The count, and the records in the first entries; the others are blank.
-#[derive(Drop)]
+#[derive(Clone, Copy)]
 pub struct StatisticList {
     pub answer: ReadU32,
     pub entries: [Statistic; STATISTIC_ENTRIES],

@@ -14,7 +14,7 @@ const LAST_SECOND: u64 = 9223372036854775807;
 
 const NANOSECONDS_IN_A_SECOND: u32 = 1000000000;
 
-#[derive(Drop)]
+#[derive(Clone, Copy)]
 pub(crate) enum ReadTime {
     Value(Time, Cursor),
     Refused(Fault),

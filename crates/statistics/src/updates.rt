@@ -12,14 +12,14 @@ use base::{Fault, LONGEST_ADDRESS, LONGEST_FILEHANDLE, LONGEST_NETID};
 use xdr::{Cursor, Part, ReadBool, ReadPart};
 
 // A `Netaddr` whose bytes are still in the body.
-#[derive(Drop)]
+#[derive(Clone, Copy)]
 pub struct NetaddrItem {
     pub netid: Part,
     pub text: Part,
 }
 
 // A `LayoutUpdate` whose bytes are still in the body.
-#[derive(Drop)]
+#[derive(Clone, Copy)]
 pub struct UpdateItem {
     pub address: NetaddrItem,
     pub filehandle: Part,
@@ -29,13 +29,13 @@ pub struct UpdateItem {
     pub local: bool,
 }
 
-#[derive(Drop)]
+#[derive(Clone, Copy)]
 pub(crate) enum ReadNetaddr {
     Value(NetaddrItem, Cursor),
     Refused(Fault),
 }
 
-#[derive(Drop)]
+#[derive(Clone, Copy)]
 pub(crate) enum ReadUpdate {
     Value(UpdateItem, Cursor),
     Refused(Fault),

@@ -10,7 +10,7 @@ use base::MOST_SEGMENTS;
 use segments::{BLANK, Segment};
 
 // Once a segment has found no free entry, the builder is full and stays so.
-#[derive(Drop)]
+#[derive(Clone, Copy)]
 pub(crate) struct Builder {
     pub items: [Segment; MOST_SEGMENTS],
     pub count: usize,

@@ -2,7 +2,7 @@
 use base::SlotNumber;
 use segments::Segments;
 
-#[derive(Drop)]
+#[derive(Clone, Copy)]
 pub enum Change {
     Grant(SlotNumber),
     Clear,
@@ -10,7 +10,7 @@ pub enum Change {
 }
 
 // The segments after an edit; where they need more than 32 entries, those before it.
-#[derive(Drop)]
+#[derive(Clone, Copy)]
 pub struct Edited {
     pub segments: Segments,
     pub fits: bool,

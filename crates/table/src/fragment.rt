@@ -7,7 +7,7 @@ use crate::change::Change;
 use base::{larger, smaller};
 use segments::{Right, Segment};
 
-#[derive(Drop)]
+#[derive(Clone, Copy)]
 pub(crate) enum Fragment {
     Nothing,
     Some(Segment),

@@ -9,7 +9,7 @@ use base::MOST_SEGMENTS;
 use segments::Segment;
 
 // The index to write at, what is written there, and what the builder then says of itself.
-#[derive(Drop)]
+#[derive(Clone, Copy)]
 pub(crate) struct Placement {
     pub at: usize,
     pub segment: Segment,

@@ -8,7 +8,7 @@ use crate::Cursor;
 use base::Fault;
 
 // The offset after what was read.
-#[derive(Drop)]
+#[derive(Clone, Copy)]
 pub enum ReadEnd {
     Value(Cursor),
     Refused(Fault),

@@ -9,13 +9,13 @@ use crate::number::{ReadU32, fault_of_u32, read_u32};
 use crate::{Cursor, Part};
 use base::Fault;
 
-#[derive(Drop)]
+#[derive(Clone, Copy)]
 pub enum ReadBool {
     Value(bool, Cursor),
     Refused(Fault),
 }
 
-#[derive(Drop)]
+#[derive(Clone, Copy)]
 pub enum ReadPart {
     Value(Part, Cursor),
     Refused(Fault),

@@ -15,13 +15,13 @@ pub use number::{ReadU32, ReadU64, fault_of_u32, fault_of_u64, read_u32, read_u6
 pub use range::{Range, ReadRange, fault_of_range, read_range};
 
 // The offset of the next item.
-#[derive(Drop)]
+#[derive(Clone, Copy)]
 pub struct Cursor {
     pub at: usize,
 }
 
 // Where the bytes of an item are.
-#[derive(Drop)]
+#[derive(Clone, Copy)]
 pub struct Part {
     pub start: usize,
     pub len: usize,

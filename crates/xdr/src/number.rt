@@ -8,13 +8,13 @@ ghost use Rattle.xdr.specs.Answers.{parsed_of_u32, parsed_of_u64};
 use crate::Cursor;
 use base::Fault;
 
-#[derive(Drop)]
+#[derive(Clone, Copy)]
 pub enum ReadU32 {
     Value(u32, Cursor),
     Refused(Fault),
 }
 
-#[derive(Drop)]
+#[derive(Clone, Copy)]
 pub enum ReadU64 {
     Value(u64, Cursor),
     Refused(Fault),

@@ -10,14 +10,14 @@ use crate::number::{ReadU64, fault_of_u64, read_u64};
 use base::{Fault, RangeEnd};
 
 // Offset and length as on the wire, and the last byte.
-#[derive(Drop)]
+#[derive(Clone, Copy)]
 pub struct Range {
     pub offset: u64,
     pub length: u64,
     pub last: u64,
 }
 
-#[derive(Drop)]
+#[derive(Clone, Copy)]
 pub enum ReadRange {
     Value(Range, Cursor),
     Refused(Fault),
