@@ -45,8 +45,7 @@ fn unsound(table: TableRecord) -> EventResult
     }
 }
 
-#[unsafe(no_mangle)]
-pub extern "C" fn basilothyn_empty_table() -> TableRecord
+pub fn basilothyn_empty_table() -> TableRecord
     ensures { result ≡ empty_record }
 {
     abi_table::record_of(segments::empty_table())
@@ -64,8 +63,7 @@ fn call(table: TableRecord, store: &mut [u8], e: Event, bytes: &[u8]) -> EventRe
     result_of(events::apply(t, store, e, bytes))
 }
 
-#[unsafe(no_mangle)]
-pub extern "C" fn basilothyn_grant(
+pub fn basilothyn_grant(
     table: TableRecord,
     store: &mut [u8],
     bytes: &[u8],
@@ -76,8 +74,7 @@ pub extern "C" fn basilothyn_grant(
     call(table, store, Event::Grant, bytes)
 }
 
-#[unsafe(no_mangle)]
-pub extern "C" fn basilothyn_return(
+pub fn basilothyn_return(
     table: TableRecord,
     store: &mut [u8],
     offset: u64,
@@ -95,8 +92,7 @@ pub extern "C" fn basilothyn_return(
     call(table, store, Event::Return(n), b"")
 }
 
-#[unsafe(no_mangle)]
-pub extern "C" fn basilothyn_recall(
+pub fn basilothyn_recall(
     table: TableRecord,
     store: &mut [u8],
     offset: u64,
@@ -114,8 +110,7 @@ pub extern "C" fn basilothyn_recall(
     call(table, store, Event::Recall(n), b"")
 }
 
-#[unsafe(no_mangle)]
-pub extern "C" fn basilothyn_revoke(table: TableRecord, store: &mut [u8]) -> EventResult
+pub fn basilothyn_revoke(table: TableRecord, store: &mut [u8]) -> EventResult
     ensures { record_result_of result store.new ≡ event_on_record Revoke table store.old }
 {
     call(table, store, Event::Revoke, b"")

@@ -69,8 +69,7 @@ fn locate(table: TableRecord, store: &[u8], write: bool, offset: u64, len: u64) 
     result_of(route::locate(t, store, write, offset, len))
 }
 
-#[unsafe(no_mangle)]
-pub extern "C" fn basilothyn_locate_read(
+pub fn basilothyn_locate_read(
     table: TableRecord,
     store: &[u8],
     offset: u64,
@@ -81,8 +80,7 @@ pub extern "C" fn basilothyn_locate_read(
     locate(table, store, false, offset, len)
 }
 
-#[unsafe(no_mangle)]
-pub extern "C" fn basilothyn_locate_write(
+pub fn basilothyn_locate_write(
     table: TableRecord,
     store: &[u8],
     offset: u64,

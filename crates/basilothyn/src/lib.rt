@@ -1,5 +1,5 @@
-// What C and Rust link. A table goes in and comes out as a record of plain numbers, by value, and a refusal as its
-// number, 0 where there is none. A record that is no table is unsound.
+// What a client calls; `basilothyn_c` exports it to C. A table goes in and comes out as a record of plain numbers, by
+// value, and a refusal as its number, 0 where there is none. A record that is no table is unsound.
 #![tactic(auto)]
 
 mod event;

@@ -40,9 +40,7 @@ fn result_of(w: Written) -> WriteResult
     }
 }
 
-// Proved by hand, as it hands the list on.
-#[unsafe(no_mangle)]
-pub extern "C" fn basilothyn_write_report(
+pub fn basilothyn_write_report(
     count: u32,
     heads: ReportHeads,
     errors: &[ErrorEntry],
@@ -57,9 +55,7 @@ pub extern "C" fn basilothyn_write_report(
     result_of(written)
 }
 
-// Proved by hand, as it hands the list on.
-#[unsafe(no_mangle)]
-pub extern "C" fn basilothyn_write_return(
+pub fn basilothyn_write_return(
     outgoing: Outgoing,
     errors: &[ErrorEntry],
     out: &mut [u8],

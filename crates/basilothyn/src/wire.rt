@@ -18,22 +18,19 @@ use abi_wire::{
 use base::{DEVICE_ID_SIZE, MirrorNumber, StripeNumber};
 use xdr::Cursor;
 
-#[unsafe(no_mangle)]
-pub extern "C" fn basilothyn_read_layout(body: &[u8]) -> LayoutResult
+pub fn basilothyn_read_layout(body: &[u8]) -> LayoutResult
     ensures { result ≡ layout_result (layout_body body.now) }
 {
     abi_wire::layout_result(layout::read_layout(body))
 }
 
-#[unsafe(no_mangle)]
-pub extern "C" fn basilothyn_read_layout4(bytes: &[u8]) -> Layout4Result
+pub fn basilothyn_read_layout4(bytes: &[u8]) -> Layout4Result
     ensures { result ≡ layout4_result (layout4 bytes.now) }
 {
     abi_wire::layout4_result(layout4::read_layout4(bytes))
 }
 
-#[unsafe(no_mangle)]
-pub extern "C" fn basilothyn_read_device(body: &[u8]) -> DeviceResult
+pub fn basilothyn_read_device(body: &[u8]) -> DeviceResult
     ensures { result ≡ device_result (device_body body.now) }
 {
     abi_wire::device_result(device::read_device(body))
@@ -41,8 +38,7 @@ pub extern "C" fn basilothyn_read_device(body: &[u8]) -> DeviceResult
 
 // The device body was fetched under the device id; the supported versions are the bits 1, 2, 4, 8 for 3, 4.0, 4.1,
 // 4.2.
-#[unsafe(no_mangle)]
-pub extern "C" fn basilothyn_bind(
+pub fn basilothyn_bind(
     layout: &[u8],
     mirror: u32,
     stripe: u32,
@@ -58,23 +54,20 @@ pub extern "C" fn basilothyn_bind(
     abi_wire::bind_result(binding::bind(layout, m, s, device, id, supported))
 }
 
-#[unsafe(no_mangle)]
-pub extern "C" fn basilothyn_read_reports(body: &[u8]) -> ReportsResult
+pub fn basilothyn_read_reports(body: &[u8]) -> ReportsResult
     ensures { result ≡ reports_result (arrays_in (report_body body.now)) }
 {
     abi_wire::reports_result(report::read_reports(body))
 }
 
-#[unsafe(no_mangle)]
-pub extern "C" fn basilothyn_read_statistics(body: &[u8]) -> StatisticsResult
+pub fn basilothyn_read_statistics(body: &[u8]) -> StatisticsResult
     ensures { result ≡ statistics_result (statistic_array_in (statistics_body body.now)) }
 {
     abi_wire::statistics_result(report::read_statistics(body))
 }
 
 // The error that is at an offset of a body.
-#[unsafe(no_mangle)]
-pub extern "C" fn basilothyn_read_error(body: &[u8], at: usize) -> ErrorResult
+pub fn basilothyn_read_error(body: &[u8], at: usize) -> ErrorResult
     ensures { result ≡ error_result (error_at body.now at) }
 {
     abi_wire::error_result(report::read_error(body, Cursor { at }))

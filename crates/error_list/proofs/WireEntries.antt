@@ -20,7 +20,7 @@ use Rattle.report.specs.Writing as writing
 use Rattle.report.specs.Writing.{error_bytes, entry_here, entries_at, reports_only, reports_written, return_written}
 use Rattle.report.proofs.EntryLaws.{length_entries, take_entries}
 use Rattle.report.proofs.StoringLaws.{length_error}
-use Rattle.report.proofs.Written.{entry_stands}
+use Rattle.report.proofs.WrittenLaws.{entry_stands}
 use Rattle.error_list.specs.Entries.{entry_of, entries_of}
 use Rattle.error_list.specs.declared.ErrorEntry.{ErrorEntry}
 use Rattle.error_list.proofs.FirstEntries.{firsts_decide}

@@ -11,8 +11,7 @@ use Rattle.base.specs.Answer.{accepted, given}
 use Rattle.base.specs.Ranges.{range_last}
 use Rattle.base.proofs.ListLaws.{taken_next}
 use Rattle.base.proofs.AnswerLaws.{both, given_inv, pick_accepted}
-use Rattle.octets.specs.Numbers.{bytes_from}
-use Rattle.octets.proofs.NumberLaws.{be_in_run}
+use Rattle.octets.specs.Numbers.{be_at}
 use Rattle.report.specs.Reports.{error_fits}
 use Rattle.report.specs.declared.ReportHead.{ReportHead}
 use Rattle.report.specs.Writing.{all_fit, counts, ErrorEntry, errors_bytes, head_bytes, checked_reports, checked_report, entry_here, entries_at, reports_bytes}
@@ -65,17 +64,11 @@ drop_entries (suc m) n s at =
 
 -- ---- what is judged, step by step
 
--- an entry is the same in a slice of its own
-entry_apart : (s : List ℕ) (at : ℕ) → at + 24 ≤ length s
-    → error_fits (entry_here (bytes_from 24 s at) 0).status (entry_here (bytes_from 24 s at) 0).operation ≡ error_fits (entry_here s at).status (entry_here s at).operation
-unfolding entry_here
-entry_apart s at h = rw (be_in_run 4 24 s at 16 (omega arith) h, be_in_run 4 24 s at 20 (omega arith) h)
-
-pub fits_next : (n : ℕ) (s : List ℕ) (at m : ℕ) (t : Bool) → 0 < n → at + 24 ≤ length s → m ≡ 24
-    → t ≡ error_fits (entry_here (bytes_from m s at) 0).status (entry_here (bytes_from m s at) 0).operation
+pub fits_next : (n : ℕ) (s : List ℕ) (at status operation : ℕ) (t : Bool) → 0 < n
+    → status ≡ be_at 4 s (at + 16) → operation ≡ be_at 4 s (at + 20) → t ≡ error_fits status operation
     → all_fit (entries_at n s at) ≡ (t && all_fit (entries_at (n - 1) s (at + 24)))
-unfolding all_fit
-fits_next n s at m t h r k e = rw (entries_next n s at h, e, k, entry_apart s at r)
+unfolding all_fit entry_here
+fits_next n s at status operation t h a b e = rw (entries_next n s at h, ← a, ← b, ← e)
 
 pub fits_none : (n : ℕ) (s : List ℕ) (at : ℕ) → n ≡ 0 → all_fit (entries_at n s at) ≡ true
 unfolding all_fit entries_at

@@ -1,8 +1,7 @@
 pub mod ReportLaws
 pub mod EntryLaws
-pub mod ErrorLaws
 pub mod StoringLaws
-pub mod Written
+pub mod WrittenLaws
 pub mod ReadBack
 pub mod ReturnRoundTrip
 pub mod ReturnLaws

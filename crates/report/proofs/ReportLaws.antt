@@ -15,7 +15,7 @@ use Rattle.octets.proofs.NumberLaws.{length_bytes}
 use Rattle.xdr.specs.Parsed.{Parsed, ok, fault, then, whole, many_at, end_of}
 use Rattle.xdr.specs.Items.{count_at}
 use Rattle.xdr.specs.declared.Part.{Part}
-use Rattle.xdr.proofs.Accepted.{bytes_read, count_read, then_inv, same_value, same_offset}
+use Rattle.xdr.proofs.Accepted.{bytes_read, then_inv, same_value, same_offset}
 use Rattle.xdr.proofs.EndLaws.{end_goes_on}
 use Rattle.xdr.proofs.ManyLaws.{first_then, none_then, refused_then}
 use Rattle.statistics.specs.Statistics.{statistics_at}
@@ -206,12 +206,3 @@ stateid_inside s at first h p e =
     let n : length (bytes_from 16 s h.stateid) ≡ 16 = report_stateid s at _ p e in
     let m = simp (length-take, length-drop) at n in
     omega (arith, m)
-
--- the errors of a head begin in the bytes, or right after them
-pub errors_inside : (s : List ℕ) (at : ℕ) (h : ReportHead) (p : ℕ) → report_head_at s at ≡ ok h p → p ≤ length s
-unfolding report_head_at
-errors_inside s at h p e =
-    let r = then_inv _ _ _ _ e in
-    let t = then_inv _ _ _ _ r.rest in
-    let n = then_inv _ _ _ _ t.rest in
-    rw (← same_offset n.rest) (count_read 1 16 s t.next n.item n.next n.first).number.within

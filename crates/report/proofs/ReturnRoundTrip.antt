@@ -34,7 +34,7 @@ use Rattle.report.proofs.ReportLaws.{body_accepted, reports_accepted}
 use Rattle.report.specs.ReportOffsets.{HeadFits, reports_from, EntryFits, entries_in, outgoing_of, sent}
 use Rattle.report.specs.Writing.{body_bytes, body_written, counts, ErrorEntry, fitted, checked_reports, reports_bytes, return_written}
 use Rattle.report.proofs.ReadBack.{reports_back}
-use Rattle.report.proofs.Written.{entries_from, reports_stand}
+use Rattle.report.proofs.WrittenLaws.{entries_from, reports_stand}
 
 -- ---- a layout return by what follows its reports
 

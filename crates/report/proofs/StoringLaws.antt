@@ -103,25 +103,15 @@ unfolding error_fits
 fits_operation status zero h = absurd (false≢true (both (not (eqb status 0)) false h).1)
 fits_operation status (suc n) h = omega arith
 
-pub fit_inside : (n : ℕ) (s : List ℕ) (at : ℕ) → all_fit (entries_at n s at) ≡ true → 1 ≤ n → at + 24 * n ≤ length s
+pub fit_inside : (n : ℕ) (s : List ℕ) (at : ℕ) → all_fit (entries_at n s at) ≡ true → at ≤ length s → at + 24 * n ≤ length s
 unfolding all_fit entries_at entry_here
-fit_inside zero s at h k = absurd (omega arith)
-fit_inside (suc zero) s at h k =
+fit_inside zero s at h k = omega arith
+fit_inside (suc n) s at h k =
     let operation = be_at 4 s (at + 20) in
-    let a = both (error_fits (be_at 4 s (at + 16)) operation) true h in
+    let a = both (error_fits (be_at 4 s (at + 16)) operation) (all_fit (entries_at n s (at + 24))) h in
     let b = be_there 4 s (at + 20) (fits_operation (be_at 4 s (at + 16)) operation a.0) in
-    omega (arith, b)
-fit_inside (suc (suc n)) s at h k =
-    let a = both (error_fits (be_at 4 s (at + 16)) (be_at 4 s (at + 20))) (all_fit (entries_at (suc n) s (at + 24))) h in
-    let c = fit_inside (suc n) s (at + 24) a.1 (omega arith) in
+    let c = fit_inside n s (at + 24) a.1 (omega (arith, b)) in
     omega (arith, c)
-
--- entries that are not there whole are never allowed
-pub cut_unfit : (n : ℕ) (s : List ℕ) (at : ℕ) → 1 ≤ n → length s < at + 24 * n → all_fit (entries_at n s at) ≡ false
-cut_unfit n s at h k = go (all_fit (entries_at n s at)) refl where
-  go : (t : Bool) → all_fit (entries_at n s at) ≡ t → t ≡ false
-  go true e = let c = fit_inside n s at e h in absurd (omega (arith, c))
-  go false e = refl
 
 checked_cons : (h : ReportHead) (hs : List ReportHead) (s : List ℕ) (at : ℕ)
     → checked_reports (h ∷ hs) (entries_at (counts (h ∷ hs)) s at)
@@ -136,7 +126,7 @@ checked_inside [] s at e h = (omega arith, omega arith)
 checked_inside (h ∷ hs) s at e n =
     let a = given_inv _ _ _ (sym (checked_cons h hs s at) ∙ e) in
     let b = allowed h _ a.first in
-    let c = fit_inside h.errors s at b.fit b.some in
+    let c = fit_inside h.errors s at b.fit n in
     let d = checked_inside hs s (at + 24 * h.errors) a.rest c in
     (omega (arith, d.0), omega (arith, d.1, b.few))
 

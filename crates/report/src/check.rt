@@ -1,12 +1,12 @@
 // Whether reports may be written: the sum of their error counts, and each report in order.
 ghost use Rattle.std.specs.Prelude.{◌≡◌, ◌+◌, ◌*◌, ◌≤◌, length, take};
-ghost use Rattle.base.specs.Limits.{error_size, most_errors_in_all, most_reports};
-ghost use Rattle.report.specs.Writing.{ErrorCount, ErrorTotal, counts};
+ghost use Rattle.base.specs.Limits.{error_size, most_errors, most_errors_in_all, most_reports};
+ghost use Rattle.report.specs.Writing.{ErrorCount, ErrorTotal, all_fit, counts};
 ghost use Rattle.report.specs.Writing.{checked_report, checked_reports, entries_at};
 ghost use Rattle.base.specs.Checks.{answer_of_check};
 
-use crate::ReportHead;
-use crate::error::errors_fit;
+use crate::error::error_fits;
+use crate::{ERROR_OPERATION_OFFSET, ERROR_STATUS_OFFSET, ReportHead};
 use base::{Check, ERROR_SIZE, Fault, MOST_ERRORS, REPORT_ENTRIES, RangeEnd};
 
 // The error count of a head. A caller cannot see how long an element's stateid is, so this says it.
@@ -34,7 +34,26 @@ pub(crate) fn total(heads: [ReportHead; REPORT_ENTRIES], count: usize) -> u64
     sum
 }
 
-// One report whose first error is at an offset of the entries. An entry that is not there whole is never allowed.
+// The n entries from an offset on: each may be written.
+fn errors_fit(errors: &[u8], from: usize, n: usize) -> bool
+    requires { (from ≤ error_size * most_errors_in_all) × (n ≤ most_errors) }
+    ensures { result ≡ all_fit (entries_at n errors.now from) }
+{
+    let mut at = from;
+    let mut left = n;
+    while 0 < left {
+        let status = octets::be4(errors, at + ERROR_STATUS_OFFSET);
+        let operation = octets::be4(errors, at + ERROR_OPERATION_OFFSET);
+        if !error_fits(status, operation) {
+            return false;
+        }
+        at += ERROR_SIZE;
+        left -= 1;
+    }
+    true
+}
+
+// One report whose first error is at an offset of the entries.
 fn check_report(head: ReportHead, errors: &[u8], from: usize) -> Check
     requires { from ≤ error_size * most_errors_in_all }
     ensures { answer_of_check result ≡ checked_report head (entries_at head.errors errors.now from) }
@@ -50,9 +69,6 @@ fn check_report(head: ReportHead, errors: &[u8], from: usize) -> Check
         return Check::Refused(Fault::OutsideLimit);
     }
     let n = head.errors as usize;
-    if errors.len() < from + ERROR_SIZE * n {
-        return Check::Refused(Fault::ErrorInvalid);
-    }
     if !errors_fit(errors, from, n) {
         return Check::Refused(Fault::ErrorInvalid);
     }

@@ -1,14 +1,13 @@
 // One error, and a run of errors.
-ghost use Rattle.std.specs.Prelude.{◌≡◌, ◌+◌, ◌*◌, ◌≤◌, length};
-ghost use Rattle.base.specs.Limits.{error_size};
-ghost use Rattle.xdr.specs.Parsed.{end_of, many_at};
+ghost use Rattle.std.specs.Prelude.{◌≡◌};
+ghost use Rattle.base.specs.Refusals.{fault_number};
+ghost use Rattle.xdr.specs.Parsed.{end_of, fault_in, many_at};
 ghost use Rattle.report.specs.Reports.{error_fits, error_at};
 ghost use Rattle.report.specs.Answers.{parsed_of_error};
-ghost use Rattle.report.specs.Writing.{all_fit, entries_at, entry_here};
 ghost use Rattle.xdr.specs.Answers.{parsed_of_end};
 
-use crate::{ERROR_OPERATION_OFFSET, ERROR_STATUS_OFFSET, ErrorItem};
-use base::{DEVICE_ID_SIZE, ERROR_SIZE, Fault};
+use crate::ErrorItem;
+use base::{DEVICE_ID_SIZE, Fault};
 use xdr::{Cursor, ReadEnd, ReadPart, ReadU32};
 
 #[derive(Clone, Copy)]
@@ -58,51 +57,28 @@ pub fn read_error(s: &[u8], c: Cursor) -> ReadError
     ReadError::Value(item, c3)
 }
 
-// The entry at the front of a slice.
-fn entry_fits(s: &[u8]) -> bool
-    ensures { result ≡ error_fits (entry_here s.now 0).status (entry_here s.now 0).operation }
+pub(crate) fn fault_of_error(r: ReadError) -> Fault
+    ensures { fault_number result ≡ fault_in (parsed_of_error r) }
 {
-    let status = octets::be4(s, ERROR_STATUS_OFFSET);
-    let operation = octets::be4(s, ERROR_OPERATION_OFFSET);
-    error_fits(status, operation)
-}
-
-// The n entries from an offset on. Each is handed on as a slice of its own, since the compiler then knows its length
-// and makes no test whether the numbers are inside.
-pub(crate) fn errors_fit(s: &[u8], from: usize, n: usize) -> bool
-    requires { from + error_size * n ≤ length s.now }
-    ensures { result ≡ all_fit (entries_at n s.now from) }
-{
-    let mut at = from;
-    let mut left = n;
-    while 0 < left {
-        let end = at + ERROR_SIZE;
-        if !entry_fits(&s[at..end]) {
-            return false;
-        }
-        at = end;
-        left -= 1;
+    match r {
+        ReadError::Refused(e) => e,
+        ReadError::Value(_, _) => Fault::BytesRunOut,
     }
-    true
 }
 
-// n errors, one after the other: where they end. Those that are there whole are judged before it counts that another
-// is not.
+// n errors, one after the other: where they end.
 pub(crate) fn read_errors(s: &[u8], c: Cursor, n: u32) -> ReadEnd
-    requires { c.at ≤ length s.now }
     ensures { parsed_of_end result ≡ end_of (many_at error_at n s.now c.at) }
 {
-    let at = c.at;
-    let count = n as u64;
-    let room = ((s.len() - at) / ERROR_SIZE) as u64;
-    let whole = base::smaller(count, room) as usize;
-    if !errors_fit(s, at, whole) {
-        return ReadEnd::Refused(Fault::ErrorInvalid);
+    let mut d = c;
+    let mut left = n;
+    while 0 < left {
+        let r = read_error(s, d);
+        let ReadError::Value(_, e) = r else {
+            return ReadEnd::Refused(fault_of_error(r));
+        };
+        d = e;
+        left -= 1;
     }
-    if room < count {
-        return ReadEnd::Refused(Fault::BytesRunOut);
-    }
-    ReadEnd::Value(Cursor {
-        at: at + ERROR_SIZE * whole,
-    })
+    ReadEnd::Value(d)
 }

@@ -1,13 +1,11 @@
 -- `report::check::check_report` meets its contract: the range, the error count, the errors.
 use Rattle.base.specs.Answer.{given, pick}
 use Rattle.base.specs.Ranges.{answer_of_range_end}
-use Rattle.report.proofs.StoringLaws.{cut_unfit}
 use Rattle.report.specs.Writing.{checked_report}
 use Rattle.xdr.proofs.Steps.{by_case, refusal_up}
 use borrow.Author.Rules.{rules}
 use borrow.Author.Tests.{le-leb, lt-leb, not-true, not-false}
 use mathlib.Core.Path.{refl, sym, ◌∙◌}
-use native.Mathlib.Omega.{arith}
 use Rattle.report.proofs.check.check_report.Statement.{statement}
 use Rattle.report.proofs.check.check_report.Tie as tie
 
@@ -44,47 +42,31 @@ returns-3 c =
 cast-n : tie.Need-overflow-cast-n
 cast-n c = search rules
 
-mul-if3 : tie.Need-overflow-mul-if3
-mul-if3 c = search rules
-
-add-if3 : tie.Need-overflow-add-if3
-add-if3 c = search rules
+errors-fit-requires : tie.Need-errors-fit-requires
+errors-fit-requires c κs = search rules
 
 returns-4 : tie.Need-returns-4
 unfolding checked_report given pick
 returns-4 c =
-    let after-enum-told = c.before.before.before.before.before.before in
-    let start = after-enum-told.before.before.before.before in
+    let after-if1 = c.before.before.before.before.before in
     rw (
-      by_case answer_of_range_end after-enum-told.before.before.range_last.ensures after-enum-told.enum_told.given.1,
-      le-leb _ _ c.before.before.before.before.if1.false,
-      le-leb _ _ c.before.before.if2.false,
-      cut_unfit start.args.head.errors start.args.errors.now start.args.from (omega arith) c.if3.true,
+      by_case answer_of_range_end after-if1.before.before.before.before.range_last.ensures
+          after-if1.before.before.enum_told.given.1,
+      le-leb _ _ after-if1.if1.false,
+      le-leb _ _ c.before.before.before.if2.false,
+      sym c.before.errors-fit.ensures ∙ not-true _ c.if3.true,
     )
-
-errors-fit-requires : tie.Need-errors-fit-requires
-errors-fit-requires c κs = search rules
 
 returns-5 : tie.Need-returns-5
 unfolding checked_report given pick
 returns-5 c =
-    let after-enum-told = c.before.before.before.before.before.before.before.before in
+    let after-if1 = c.before.before.before.before.before in
     rw (
-      by_case answer_of_range_end after-enum-told.before.before.range_last.ensures after-enum-told.enum_told.given.1,
-      le-leb _ _ c.before.before.before.before.before.before.if1.false,
-      le-leb _ _ c.before.before.before.before.if2.false,
-      sym c.before.errors-fit.ensures ∙ not-true _ c.if4.true,
-    )
-
-returns-6 : tie.Need-returns-6
-unfolding checked_report given pick
-returns-6 c =
-    let after-enum-told = c.before.before.before.before.before.before.before.before in
-    rw (
-      by_case answer_of_range_end after-enum-told.before.before.range_last.ensures after-enum-told.enum_told.given.1,
-      le-leb _ _ c.before.before.before.before.before.before.if1.false,
-      le-leb _ _ c.before.before.before.before.if2.false,
-      sym c.before.errors-fit.ensures ∙ not-false _ c.if4.false,
+      by_case answer_of_range_end after-if1.before.before.before.before.range_last.ensures
+          after-if1.before.before.enum_told.given.1,
+      le-leb _ _ after-if1.if1.false,
+      le-leb _ _ c.before.before.before.if2.false,
+      sym c.before.errors-fit.ensures ∙ not-false _ c.if3.false,
     )
 
 pub check-report-spec : {M : Type 1} → statement M
@@ -99,9 +81,6 @@ check-report-spec =
     returns-2
     returns-3
     cast-n
-    mul-if3
-    add-if3
-    returns-4
     errors-fit-requires
-    returns-5
-    returns-6)
+    returns-4
+    returns-5)

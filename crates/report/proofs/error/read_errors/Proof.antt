@@ -1,58 +1,80 @@
--- `report::error::read_errors` meets its contract: as many errors as are there whole are judged, and then it counts whether they are enough.
-use Prim.Native.Nat.{ℕ, ◌+◌, ◌-◌, ◌*◌, ◌/◌, ◌≤◌, ◌<◌, min}
-use Rattle.report.proofs.ErrorLaws.{errors_cut, errors_end, errors_unfit}
+-- `report::error::read_errors` meets its contract. The loop's invariant: the errors passed are allowed, so what is left decides. The measure is
+-- how many are left.
+use Rattle.report.specs.Answers.{parsed_of_error}
+use Rattle.report.specs.Reports.{error_at}
+use Rattle.xdr.proofs.EndLaws.{first_refuses, none_end, others_end}
+use Rattle.xdr.proofs.Steps.{by_case, fault_up}
+use Rattle.xdr.specs.Parsed.{many_at, end_of}
 use borrow.Author.Rules.{rules}
-use borrow.Author.Tests.{not-true, not-false}
-use mathlib.Core.Path.{◌≡◌, sym, ◌∙◌}
+use mathlib.Core.Path.{◌≡◌, refl, ◌∙◌}
 use native.Mathlib.Omega.{arith}
 use Rattle.report.proofs.error.read_errors.Statement.{statement}
 use Rattle.report.proofs.error.read_errors.Tie as tie
 
-sub-room : tie.Need-overflow-sub-room
-sub-room c = search rules
+abbrev invariant-loop : tie.invariant-loop
+invariant-loop s n d₀ left₀ d left = end_of (many_at error_at n s d₀.at) ≡ end_of (many_at error_at left s d.at)
 
-smaller-requires : tie.Need-smaller-requires
-smaller-requires c κs = search rules
+abbrev decreases-loop : tie.decreases-loop
+decreases-loop s n d₀ left₀ d left = left
 
-errors-fit-requires : tie.Need-errors-fit-requires
-errors-fit-requires c κs = search rules
+loop-holds : tie.Need-loop-init invariant-loop decreases-loop
+loop-holds c = refl
 
-returns : tie.Need-returns
+read-error-requires : tie.Need-read-error-requires invariant-loop decreases-loop
+read-error-requires c κs = search rules
+
+enum-known-r : tie.Need-enum-known-r invariant-loop decreases-loop
+enum-known-r c = search rules
+
+enum_told : tie.Need-enum-told invariant-loop decreases-loop
+enum_told c = search rules
+
+fault-of-error-requires : tie.Need-fault-of-error-requires invariant-loop decreases-loop
+fault-of-error-requires c κs = search rules
+
+returns : tie.Need-returns invariant-loop decreases-loop
 returns c =
-    let start = c.before.before.before.before in
-    sym (errors_unfit c.before.before.smaller.result start.args.n start.args.s.now start.args.c.at (omega (arith, c.before.before.smaller.ensures))
-    (omega (arith, c.before.before.smaller.ensures)) (sym c.before.errors-fit.ensures ∙ not-true _ c.if1.true))
+    let at-loop = c.before.before.before.before.before in
+    let l = at-loop.loop in
+    rw (
+      l.invariant,
+      first_refuses error_at l.left at-loop.before.before.args.s.now l.d.at _ (omega arith)
+          (fault_up parsed_of_error c.before.before.before.read-error.ensures c.before.enum_told.given.1
+          c.fault-of-error.ensures refl),
+    )
 
-returns-2 : tie.Need-returns-2
+sub-left : tie.Need-overflow-sub-left invariant-loop decreases-loop
+sub-left c = search rules
+
+loop-less : tie.Need-loop-smaller invariant-loop decreases-loop
+loop-less c = search rules
+
+loop-again : tie.Need-loop-preserved invariant-loop decreases-loop
+loop-again c =
+    let at-loop = c.before.before.before.before.before in
+    let l = at-loop.loop in
+    l.invariant
+    ∙ others_end error_at l.left at-loop.before.before.args.s.now l.d.at _ _ (omega arith)
+    (by_case parsed_of_error c.before.before.before.read-error.ensures c.before.r.given.1)
+
+returns-2 : tie.Need-returns-2 invariant-loop decreases-loop
 returns-2 c =
-    let start = c.before.before.before.before.before in
-    let whole = c.before.before.before.smaller in
-    sym (errors_cut whole.result start.args.n start.args.s.now start.args.c.at (omega (arith, whole.ensures)) (omega (arith, whole.ensures))
-    (omega (arith, whole.ensures)) (sym c.before.before.errors-fit.ensures ∙ not-false _ c.before.if1.false))
-
-mul-t8 : tie.Need-overflow-mul-t8
-mul-t8 c = search rules
-
-add-t9 : tie.Need-overflow-add-t9
-add-t9 c = search rules
-
-returns-3 : tie.Need-returns-3
-returns-3 c =
-    let start = c.before.before.before.before.before in
-    let whole = c.before.before.before.smaller in
-    let all : whole.result ≡ start.args.n = omega (arith, whole.ensures) in
-    let fit = sym c.before.before.errors-fit.ensures ∙ not-false _ c.before.if1.false in
-    rw all (sym (errors_end start.args.n start.args.s.now start.args.c.at (omega (arith, whole.ensures)) (rw all at fit)))
+    let l = c.before.loop in
+    rw (l.invariant, none_end error_at l.left c.before.before.before.args.s.now l.d.at (omega arith))
 
 pub read-errors-spec : {M : Type 1} → statement M
 read-errors-spec =
     tie.close
     (tie.spec
-    sub-room
-    smaller-requires
-    errors-fit-requires
+    invariant-loop
+    decreases-loop
+    loop-holds
+    read-error-requires
+    enum-known-r
+    enum_told
+    fault-of-error-requires
     returns
-    returns-2
-    mul-t8
-    add-t9
-    returns-3)
+    sub-left
+    loop-less
+    loop-again
+    returns-2)

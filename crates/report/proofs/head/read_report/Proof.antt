@@ -1,5 +1,5 @@
 -- `report::head::read_report` meets its contract: the head, then its errors.
-use Rattle.report.proofs.ReportLaws.{errors_inside, report_ends}
+use Rattle.report.proofs.ReportLaws.{report_ends}
 use Rattle.report.specs.Answers.{parsed_of_report_head}
 use Rattle.xdr.proofs.Steps.{by_case, fault_up, fault_up_from}
 use Rattle.xdr.specs.Answers.{parsed_of_end}
@@ -34,10 +34,7 @@ returns c =
     )
 
 read-errors-requires : tie.Need-read-errors-requires
-read-errors-requires c κs =
-    let s = c.before.before.before.before.before.args.s.now in
-    errors_inside s c.before.before.before.before.before.args.c.at _ _
-    (by_case (parsed_of_report_head s) c.before.before.before.read-report-head.ensures c.before.rh.given.1)
+read-errors-requires c κs = search rules
 
 enum-known-re : tie.Need-enum-known-re
 enum-known-re c = search rules

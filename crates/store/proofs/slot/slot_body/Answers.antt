@@ -7,4 +7,4 @@ use Rattle.store.proofs.slot.slot_body.Goals as goal
 
 pub returns : goal.returns
 unfolding body_in
-returns c = c.bytes_from_lem.ensures ∙ ap (λ (n : ℕ). bytes_from n c.args.slot.now 6) c.slot_length-n.ensures
+returns c = c.bytes_from.ensures ∙ ap (λ (n : ℕ). bytes_from n c.args.slot.now 6) c.slot_length-n.ensures

@@ -1,0 +1,71 @@
+-- `device::netid::class_of` meets its contract: the first string that is equal decides. `kI` is what is known after the comparison with string I.
+use Rattle.base.specs.Answer.{pick}
+use Rattle.device.specs.Netids.{class_of}
+use mathlib.Core.Path.{sym, ◌∙◌}
+use Rattle.device.proofs.netid.class_of.Goals as goal
+
+pub returns-then-same : goal.returns-then-same
+unfolding class_of pick
+returns-then-same c = rw (sym c.same.ensures ∙ c.if-same.true)
+
+pub returns-then-same-2 : goal.returns-then-same-2
+unfolding class_of pick
+returns-then-same-2 c =
+    rw (
+      sym c.same.ensures ∙ c.if-same.false,
+      sym c.same-2.ensures ∙ c.if-same-2.true,
+    )
+
+pub returns-then-same-3 : goal.returns-then-same-3
+unfolding class_of pick
+returns-then-same-3 c =
+    rw (
+      sym c.same.ensures ∙ c.if-same.false,
+      sym c.same-2.ensures ∙ c.if-same-2.false,
+      sym c.same-3.ensures ∙ c.if-same-3.true,
+    )
+
+pub returns-then-same-4 : goal.returns-then-same-4
+unfolding class_of pick
+returns-then-same-4 c =
+    rw (
+      sym c.same.ensures ∙ c.if-same.false,
+      sym c.same-2.ensures ∙ c.if-same-2.false,
+      sym c.same-3.ensures ∙ c.if-same-3.false,
+      sym c.same-4.ensures ∙ c.if-same-4.true,
+    )
+
+pub returns-then-same-5 : goal.returns-then-same-5
+unfolding class_of pick
+returns-then-same-5 c =
+    rw (
+      sym c.same.ensures ∙ c.if-same.false,
+      sym c.same-2.ensures ∙ c.if-same-2.false,
+      sym c.same-3.ensures ∙ c.if-same-3.false,
+      sym c.same-4.ensures ∙ c.if-same-4.false,
+      sym c.same-5.ensures ∙ c.if-same-5.true,
+    )
+
+pub returns-then-same-6 : goal.returns-then-same-6
+unfolding class_of pick
+returns-then-same-6 c =
+    rw (
+      sym c.same.ensures ∙ c.if-same.false,
+      sym c.same-2.ensures ∙ c.if-same-2.false,
+      sym c.same-3.ensures ∙ c.if-same-3.false,
+      sym c.same-4.ensures ∙ c.if-same-4.false,
+      sym c.same-5.ensures ∙ c.if-same-5.false,
+      sym c.same-6.ensures ∙ c.if-same-6.true,
+    )
+
+pub returns : goal.returns
+unfolding class_of pick
+returns c =
+    rw (
+      sym c.same.ensures ∙ c.if-same.false,
+      sym c.same-2.ensures ∙ c.if-same-2.false,
+      sym c.same-3.ensures ∙ c.if-same-3.false,
+      sym c.same-4.ensures ∙ c.if-same-4.false,
+      sym c.same-5.ensures ∙ c.if-same-5.false,
+      sym c.same-6.ensures ∙ c.if-same-6.false,
+    )
