@@ -20,6 +20,8 @@ ARCHIVE = "basilothyn"
 ARCHIVE_CRATE = "basilothyn_c"
 MADE = {name: f"target/bin/{name}" for name in PROGRAMS} | {ARCHIVE: f"target/staticlib/lib{ARCHIVE}.a"}
 PARTS = ("src", "specs", "proofs")
+# The archive is for the first x86-64 processors too; rt builds for later ones where it is not told.
+WORDS = {ARCHIVE: ["lib", "--cpu=x86-64"]}
 POLL = 0.5  # seconds
 
 
@@ -111,20 +113,20 @@ def said_in(output):
     return output.read().decode("utf-8", "replace").rstrip()
 
 
-def run_rt(word, crate, progress):
+def run_rt(words, crate, progress):
     """Runs rt in a crate's folder. A program that is built is run too, on no input; whatever its status is, rt says before that it runs it."""
     with tempfile.TemporaryFile() as output:
         try:
             # By itself, so that the provers that it starts can be ended with it.
             to = {"stdin": subprocess.DEVNULL, "stdout": output, "stderr": output}
-            rt = subprocess.Popen(["rt", word], cwd=TOP / "crates" / crate, start_new_session=True, **to)
+            rt = subprocess.Popen(["rt", *words], cwd=TOP / "crates" / crate, start_new_session=True, **to)
         except OSError as reason:
             raise NotBuilt(f"the Rattle toolchain cannot be run: rt: {reason.strerror}") from None
         status = wait_for(rt, lambda: progress.report(os.pread(output.fileno(), 1 << 24, 0).decode("utf-8", "replace")))
         said = said_in(output)
-        built = re.search(r"^rt: running out/", said, re.M) if word == "run" else status == 0
+        built = re.search(r"^rt: running out/", said, re.M) if words == ["run"] else status == 0
         if not built:
-            raise NotBuilt(f"{said}\nrt {word} in crates/{crate} failed, with the output above")
+            raise NotBuilt(f"{said}\nrt {' '.join(words)} in crates/{crate} failed, with the output above")
 
 
 def wait_for(rt, poll):
@@ -161,7 +163,7 @@ def build(*names):
                 wait_for_others(lock)
                 if not is_up_to_date(name):
                     sources = sum_of_sources(name)
-                    run_rt("lib" if name == ARCHIVE else "run", crate_of(name), progress)
+                    run_rt(WORDS.get(name, ["run"]), crate_of(name), progress)
                     take(name, sources)
             except KeyboardInterrupt:
                 raise NotBuilt("interrupted") from None
