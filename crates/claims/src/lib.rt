@@ -3,11 +3,11 @@
 //
 // The three demands come first, then what follows from each. Of demand 1 "every call ends with an answer" and of
 // demand 2 the first sentence are the contracts themselves: no public function has a `requires`, each returns, and
-// its one `ensures` is an equation with a definition in specs/, which quotes the scope paper. `layoutBody` is what
-// `layout::read_layout` answers, `layout4` `layout4::read_layout4`, `deviceBody` `device::read_device`, `boundTo`
-// `binding::bind`, `returnBody` both readers of layout returns, each with its half, `returnWritten` both writers, of
-// which that of reports alone sends no statistics, `eventResult` `events::apply`, `routed` `route::locate`,
-// `eventOnRecord` the exported events, `routedOn` the exported lookups.
+// its one `ensures` is an equation with a definition in specs/, which quotes the scope paper. `layout_body` is what
+// `layout::read_layout` answers, `layout4` `layout4::read_layout4`, `device_body` `device::read_device`, `bound_to`
+// `binding::bind`, `return_body` both readers of layout returns, each with its half, `return_written` both writers, of
+// which that of reports alone sends no statistics, `event_result` `events::apply`, `routed` `route::locate`,
+// `event_on_record` the exported events, `routed_on` the exported lookups.
 //
 // `accepted v` is an answer with its value, `refused n` a refusal with the scope paper's number, and `n ≡ 0 → ⊥` says
 // that n is not 0.
@@ -178,13 +178,13 @@ pub fn starts_are_servers()
 // after every list of events from the empty table and the zeroed store their answers, table and store are those of
 // the reference model, which the scope paper calls the ledger (model/specs/Model.antt). `Agreed` in
 // model/specs/Claim.antt has each sentence as a field or two. All that these calls keep of a file is its table, at
-// first the empty one; the model keeps rights and slots and nothing else (`rightsAndSlots`).
+// first the empty one; the model keeps rights and slots and nothing else (`rights_and_slots`).
 pub fn demand_3()
     ensures { Demand3 (λ t. t) empty_table (rights_and_slots last_byte) event_result }
 {}
 
 // Demand 3 and where an I/O goes, joined: after every list of events an I/O is served exactly as the rights say that
-// the accepted events give its first byte (`servedByRights`). A write is answered where that byte is granted in RW,
+// the accepted events give its first byte (`served_by_rights`). A write is answered where that byte is granted in RW,
 // under the body of that grant; a read where it is granted in RW under a body without flag 4, or else in READ;
 // elsewhere the answer is 17. A request that is out of order is 5, and 20 never comes.
 pub fn io_goes_by_the_rights_that_events_give()
@@ -246,7 +246,7 @@ pub fn numbers_read_are_written()
 {}
 
 // "says where each server starts, by mirror and by stripe": in the 128 starts of an accepted body, which are
-// `startsOf` its mirrors, the start of mirror m's server k is at the index m * 16 + k.
+// `starts_of` its mirrors, the start of mirror m's server k is at the index m * 16 + k.
 pub fn starts_are_by_mirror_and_stripe()
     ensures { (mirrors : List (List Server)) → ((m : ℕ) → length (get_or mirrors m []) ≤ most_servers)
         → (m k : ℕ) → k < most_servers → get_or (starts_of mirrors) (m * most_servers + k) 0
@@ -278,7 +278,7 @@ pub fn bodies_have_their_sizes()
 // A layout return has 8 bytes, 36 a report, 24 an error, and 248 to 436 a record of statistics: "a body has at most
 // 6,856 bytes, and 3,368 without statistics, ..; without statistics one report with one error has 68" (C-13).
 pub fn returns_have_their_sizes()
-    ensures* { λ r. ⌜ ((s : List ℕ) (r : LayoutReturn) → AllBytes s → return_body s ≡ accepted r
+    ensures { ((s : List ℕ) (r : LayoutReturn) → AllBytes s → return_body s ≡ accepted r
         → (length s ≡ 8 + report_head_size * length r.reports + error_size * counts (map (λ x. x.head) r.reports)
         + length (statistics_bytes r.statistics))
         × Each (λ x. (shortest_statistic ≤ length (statistic_bytes x)) × (length (statistic_bytes x) ≤ longest_statistic))
@@ -288,15 +288,15 @@ pub fn returns_have_their_sizes()
         → return_body s ≡ accepted (record { reports = rs; statistics = [] }) → length s ≤ 3368)
         × ((s : List ℕ) (x : Report) → AllBytes s
         → return_body s ≡ accepted (record { reports = x ∷ []; statistics = [] })
-        → x.head.errors ≡ 1 → length s ≡ 68) ⌝ }
+        → x.head.errors ≡ 1 → length s ≡ 68) }
 {}
 
 // What each reader of layout returns hands out is a half of one body, and both refuse alike.
 pub fn halves_are_of_one_body()
-    ensures* { λ r. ⌜ ((s : List ℕ) (r : LayoutReturn) → return_body s ≡ accepted r
+    ensures { ((s : List ℕ) (r : LayoutReturn) → return_body s ≡ accepted r
         → (report_body s ≡ accepted r.reports) × (statistics_body s ≡ accepted r.statistics))
         × ((s : List ℕ) (n : ℕ) → return_body s ≡ refused n
-        → (report_body s ≡ refused n) × (statistics_body s ≡ refused n)) ⌝ }
+        → (report_body s ≡ refused n) × (statistics_body s ≡ refused n)) }
 {}
 
 // "Reading what was written gives the same records (spare bytes past a length aside)" (C-13), the same reports, and at
@@ -315,15 +315,15 @@ pub fn returns_written_are_read()
 // "writing what was read gives the same bytes" (C-13), so no two bodies have the same reports, errors and records.
 // room: the output's length.
 pub fn returns_read_are_written()
-    ensures* { λ r. ⌜ ((bs : List ℕ) (r : LayoutReturn) (room : ℕ) → AllBytes bs → length bs ≤ room
+    ensures { ((bs : List ℕ) (r : LayoutReturn) (room : ℕ) → AllBytes bs → length bs ≤ room
         → return_body bs ≡ accepted r
-        → return_written (outgoing_of r) (entries_in bs r.reports) room ≡ accepted bs) ⌝ }
+        → return_written (outgoing_of r) (entries_in bs r.reports) room ≡ accepted bs) }
 {}
 
 // What was read has no spare bytes but zeros, so writing and reading it again gives the same records.
 pub fn records_read_are_clear()
-    ensures* { λ r. ⌜ ((bs : List ℕ) (r : LayoutReturn) → AllBytes bs → return_body bs ≡ accepted r
-        → map cleared r.statistics ≡ r.statistics) ⌝ }
+    ensures { ((bs : List ℕ) (r : LayoutReturn) → AllBytes bs → return_body bs ≡ accepted r
+        → map cleared r.statistics ≡ r.statistics) }
 {}
 
 // A layout return with nothing in it: eight zero bytes.
@@ -364,7 +364,7 @@ pub fn writes_need_a_grant()
 
 // "A write needs RW granted. A read needs READ granted, or RW granted under a body without flag 4": on a sound table
 // and store a request that is out of order is refused with 5, and one that is in order is answered exactly where its
-// first byte has that right, and refused with 17 elsewhere. So "Rights and refusals don't change" (C-11): `hasRight`
+// first byte has that right, and refused with 17 elsewhere. So "Rights and refusals don't change" (C-11): `has_right`
 // does not ask which of two rights is used.
 pub fn requests_are_answered_where_they_have_the_right()
     ensures { ((write : Bool) (t : Table) (store : List ℕ) (offset len n : ℕ) → sound t store ≡ true
@@ -398,8 +398,8 @@ pub fn reads_go_where_writes_go()
 
 // "A read names one mirror: the highest efficiency, lowest number on a tie; each mirror is judged by the efficiency
 // of the server that holds the stripe of the request's first byte." (C-12) "A write names .. with flag 8 only the
-// mirror that this same rule picks in the write's own body." `stripeIn l offset` is that byte's stripe, and
-// `efficiencyOf body starts k m` is the efficiency of mirror m's server of stripe k
+// mirror that this same rule picks in the write's own body." `stripe_in l offset` is that byte's stripe, and
+// `efficiency_of body starts k m` is the efficiency of mirror m's server of stripe k
 // (`mirrors_are_judged_by_their_servers`). The mirrors are a set of bits.
 pub fn mirrors_are_named_by_efficiency()
     ensures { (write : Bool) (t : Table) (store : List ℕ) (offset len : ℕ) (p : Piece) (l : Layout)
@@ -434,7 +434,7 @@ pub fn writes_without_flag_8_name_all_mirrors()
         → bit 8 l.summary.flags ≡ false → p.mirrors ≡ 2 ^ l.summary.mirrors - 1 }
 {}
 
-// With one server a mirror the mirrors are those by the first servers (`byFirstServers`): the sentences of 01 and of
+// With one server a mirror the mirrors are those by the first servers (`by_first_servers`): the sentences of 01 and of
 // C-12 agree there.
 pub fn with_one_server_the_first_is_judged()
     ensures { (write : Bool) (t : Table) (store : List ℕ) (offset len : ℕ) (p : Piece) (l : Layout)
@@ -502,7 +502,7 @@ pub fn records_stand_for_tables()
         × ((given : TableRecord) (t : Table) → table_in given ≡ accepted t → record_of t ≡ given) }
 {}
 
-// The exported events are the events: on the record of a table they leave the record of the table that `eventResult`
+// The exported events are the events: on the record of a table they leave the record of the table that `event_result`
 // leaves.
 pub fn exported_events_are_the_events()
     ensures { (e : Event) (t : Table) (store : List ℕ) → event_on_record e (record_of t) store

@@ -1,6 +1,2 @@
 pub mod FirstEntries
 pub mod WireEntries
-pub mod State
-pub mod Again
-pub mod Local
-pub mod ArrayCalls

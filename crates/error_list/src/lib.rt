@@ -40,7 +40,7 @@ fn put_entry(buf: &mut [u8], i: usize, error: ErrorEntry)
     report::put_error(buf, ERROR_SIZE * i, &device, error.status, error.operation);
 }
 
-// The first n entries of the list, as wire entries. Proved by hand, as the borrow checker covers no slice of structs.
+// The first n entries of the list, as wire entries.
 fn put_entries(buf: &mut [u8], errors: &[ErrorEntry], n: usize)
     requires { (n ≤ length errors.now) × (error_size * n ≤ length buf.old) }
     ensures { entries_at n buf.new 0 ≡ entries_of (take n errors.now) }
@@ -53,7 +53,7 @@ fn put_entries(buf: &mut [u8], errors: &[ErrorEntry], n: usize)
     }
 }
 
-// The body, from the list of errors. Proved by hand, as it hands the list on.
+// The body, from the list of errors.
 pub fn write_error_list(
     count: u32,
     heads: [ReportHead; REPORT_ENTRIES],
@@ -71,7 +71,7 @@ pub fn write_error_list(
     report::write_reports(count, heads, errors.len(), &entries, out)
 }
 
-// A layout return, from the list of errors. Proved by hand, as it hands the list on.
+// A layout return, from the list of errors.
 pub fn write_return_list(outgoing: Outgoing, errors: &[ErrorEntry], out: &mut [u8]) -> Written
     ensures { (answer_of_written result ≡ length_of
         (return_written outgoing (entries_of errors.now) (length out.old)))

@@ -211,7 +211,7 @@ offset_of s l h m k small =
     ap (λ (x : Layout). get_or x.starts (m * 16 + k) 0) (sym p.whole)
     ∙ starts_at p.mirrors (λ j. let few = row_has p.front.servers p.mirrors r.each j in omega (arith, few, f.servers_few)) m k small
 
--- at each used start is a data server: its device id there, efficiency 16 bytes on, stateid 20, filehandle count 36 (`server-read`)
+-- at each used start is a data server: its device id there, efficiency 16 bytes on, stateid 20, filehandle count 36 (`server_read`)
 pub start_is_at : (s : List ℕ) (l : Layout) → layout_body s ≡ accepted l
     → (m k : ℕ) → m < l.summary.mirrors → k < l.summary.servers → ServerReadAt s (start_at l.starts m k)
 start_is_at s l h m k hm hk =

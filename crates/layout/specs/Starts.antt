@@ -1,4 +1,4 @@
--- The table of starts as the loops fill it: what they read, stored from an index on. A step in between: `startsOf`
+-- The table of starts as the loops fill it: what they read, stored from an index on. A step in between: `starts_of`
 -- says what comes of it.
 use Rattle.std.specs.Prelude.{ℕ, ◌+◌, List, [], ◌∷◌, map}
 use Rattle.std.proofs.lemmas.List.Edits.{sets}

@@ -121,8 +121,8 @@ module _ {K : Type 0} (table : K → Table) where
       × EachConfined call es (call e k store).kept (call e k store).store
 
 -- table: the table in what is kept; first: what is kept before the first event, with an empty table in it
--- (`same-table` says so of the empty list); ref: the reference model. Of the calls on tables these are the table
--- itself, `emptyTable` and `rightsAndSlots lastByte`.
+-- (`same_table` says so of the empty list); ref: the reference model. Of the calls on tables these are the table
+-- itself, `empty_table` and `rights_and_slots last_byte`.
 module _ {K L : Type 0} (table : K → Table) (first : K) (ref : ReferenceModel L) (call : Calls K) where
   -- What demand 3 says of one list of events. got: the calls' answers; t, store: what they leave; M: the rights and
   -- slots of the reference model after the list.
