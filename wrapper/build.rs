@@ -1,4 +1,4 @@
-//! Links the archive that `rt staticlib basilothyn` writes.
+//! Links the archive that `tools/build basilothyn` writes.
 
 use std::path::Path;
 use std::process::exit;
@@ -10,7 +10,7 @@ fn main() {
     println!("cargo:rerun-if-changed={}", archive.display());
     if !archive.is_file() {
         eprintln!("the archive of the core is missing: {}", archive.display());
-        eprintln!("run `rt staticlib basilothyn` in the repository's top folder first; it needs the Rattle toolchain");
+        eprintln!("run `tools/build basilothyn` in the repository's top folder first; it needs the Rattle toolchain");
         exit(1);
     }
     println!("cargo:rustc-link-search=native={}", folder.display());
