@@ -63,11 +63,7 @@ fn call(table: TableRecord, store: &mut [u8], e: Event, bytes: &[u8]) -> EventRe
     result_of(events::apply(t, store, e, bytes))
 }
 
-pub fn basilothyn_grant(
-    table: TableRecord,
-    store: &mut [u8],
-    bytes: &[u8],
-) -> EventResult
+pub fn basilothyn_grant(table: TableRecord, store: &mut [u8], bytes: &[u8]) -> EventResult
     ensures { record_result_of result store.new
         ≡ event_on_record (Grant bytes.now) table store.old }
 {

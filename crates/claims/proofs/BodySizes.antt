@@ -12,7 +12,7 @@ use Rattle.xdr.specs.Parsed.{ok, many_at}
 use Rattle.xdr.specs.Items.{opaque_at, padding, range_at}
 use Rattle.xdr.specs.declared.Part.{Part}
 use Rattle.xdr.proofs.Accepted.{bytes_read, count_read, item_accepted, number_read, opaque_read, pick_inv, range_read, then_inv, same_offset, same_value, whole_read}
-use Rattle.xdr.proofs.ManyLaws.{many_exact, many_least, many_length}
+use Rattle.xdr.proofs.ManyLaws.{many_exact, many_least}
 use Rattle.server.specs.Servers.{handles_at, server_at}
 use Rattle.server.specs.declared.item.Server.{Server}
 use Rattle.server.proofs.ServerLaws.{head_read}

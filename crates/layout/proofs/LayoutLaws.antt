@@ -15,7 +15,7 @@ use Rattle.base.proofs.ListLaws.{each_at, each_map, length_padded, padded_at}
 use Rattle.base.proofs.AnswerLaws.{pick_accepted, pick_true}
 use Rattle.octets.specs.Numbers.{be_at}
 use Rattle.octets.proofs.NumberLaws.{be_there}
-use Rattle.xdr.specs.Parsed.{ok, many_at, whole}
+use Rattle.xdr.specs.Parsed.{ok, many_at}
 use Rattle.xdr.proofs.Accepted.{number_read, pick_inv, then_inv, same_offset, same_value, whole_read}
 use Rattle.xdr.proofs.ManyLaws.{many_each}
 use Rattle.server.specs.Servers.{server_at}

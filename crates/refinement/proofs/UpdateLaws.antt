@@ -9,7 +9,6 @@ use Rattle.base.specs.Answer.{Answer, accepted, refused, pick}
 use Rattle.base.specs.declared.iomode.Iomode.{Iomode}
 use Rattle.octets.specs.Numbers.{same_bytes}
 use Rattle.octets.proofs.SameLaws.{same_not, same_other, same_true}
-use Rattle.segments.specs.declared.Right.TheVariants as right
 use Rattle.segments.specs.declared.Table.{Table}
 use Rattle.segments.specs.Segments.{Mode, READ, RW, any_below, is_named}
 use Rattle.segments.proofs.ScanLaws.{any_none}

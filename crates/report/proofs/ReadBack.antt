@@ -10,8 +10,8 @@ use lib.Seq.{drop_at, take_at}
 use Rattle.base.specs.Answer.{accepted, given, pick}
 use Rattle.base.specs.Ranges.{range_last}
 use Rattle.octets.specs.Numbers.{AllBytes, be_at, be_bytes, bytes_from}
-use Rattle.octets.proofs.NumberLaws.{length_be, length_bytes}
-use Rattle.octets.proofs.BytesAtLaws.{bytes_are, BytesAt, bytes_at_join}
+use Rattle.octets.proofs.NumberLaws.{length_bytes}
+use Rattle.octets.proofs.BytesAtLaws.{BytesAt, bytes_at_join}
 use Rattle.xdr.specs.Items.{bytes_at, count_at, num_at, range_at}
 use Rattle.xdr.specs.Parsed.{ok, many_at}
 use Rattle.xdr.specs.declared.Part.{Part}

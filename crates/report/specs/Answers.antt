@@ -1,5 +1,5 @@
 -- What the answers say: the values, or the number; and the arrays beside them.
-use Rattle.std.specs.Prelude.{ℕ, List, [], ◌++◌, map, length, replicate}
+use Rattle.std.specs.Prelude.{ℕ, List, ◌++◌, map, length, replicate}
 use Rattle.base.specs.Limits.{most_reports, most_statistics, stateid_size}
 use Rattle.base.specs.Answer.{Answer, accepted, refused}
 use Rattle.base.specs.Lists.{padded}

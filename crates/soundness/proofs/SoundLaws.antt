@@ -15,7 +15,7 @@ use Rattle.segments.specs.declared.Right.TheVariants.{None}
 use Rattle.segments.specs.declared.Segment.{Segment}
 use Rattle.segments.specs.Segments.{Mode, READ, RW, blank, in_entries, right_at, same_right}
 use Rattle.segments.proofs.Canon.{Canon, at_in, at_past, canon_under, same_right_true}
-use Rattle.segments.proofs.ScanLaws.{segments_canon, segments_past}
+use Rattle.segments.proofs.ScanLaws.{segments_past}
 use Rattle.store.specs.Store.{Body, Slot, empty, holds, slot_bytes, store_of}
 use Rattle.store.proofs.SlotLaws.{body_back, empty_zero, kind_holds, length_holds, zeros_after}
 use Rattle.store.proofs.StoreLaws.{length_store}

@@ -19,7 +19,7 @@ use Rattle.segments.specs.Segments.{Mode, READ, RW, any_names, is_named, list_in
 use Rattle.store.specs.Store.{Body, empty, holds, body_in, kind_in, length_in, slot_at}
 use Rattle.base.specs.Answer.{is_accepted}
 use Rattle.model.specs.SlotsShown.{all_distinct, slots_from, slots_in}
-use Rattle.soundness.specs.Sound.{all_blank, apart, apart_from_next, has_slot, is_in_order, is_fit, segments_sound, slot_sound, slots_sound, sound}
+use Rattle.soundness.specs.Sound.{all_blank, apart_from_next, has_slot, is_in_order, is_fit, segments_sound, slot_sound, slots_sound, sound}
 use Rattle.model.proofs.ModelSlotLaws.{empty_holds, held_body}
 
 -- ---- lists

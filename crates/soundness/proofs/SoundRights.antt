@@ -1,25 +1,18 @@
 -- The rights that a sound table and store show: the slot of each holds its body, and the body leads back to that slot.
 use Prim.Native.Nat.{ℕ, ◌<◌}
-use mathlib.Core.Path.{◌≡◌, refl, sym, ap, ◌∙◌}
-use mathlib.Core.Bool.{Bool, true, false, false≢true, or-true}
+use mathlib.Core.Path.{◌≡◌, refl, ◌∙◌}
+use mathlib.Core.Bool.{Bool, true, false, or-true}
 use mathlib.Core.List.{List, [], ◌∷◌}
-use borrow.Author.Tests.{ltb-true, eqb-true, eq-eqb}
-use lib.Dec.{eqb}
-use lib.ListN.{get_or}
+use borrow.Author.Tests.{ltb-true, eq-eqb}
 use Rattle.base.specs.Answer.{pick}
-use Rattle.octets.proofs.SameLaws.{same_refl}
 use Rattle.segments.specs.declared.Right.{Right}
 use Rattle.segments.specs.declared.Right.TheVariants.{None, Granted, Recalled}
 use Rattle.segments.specs.declared.Segment.{Segment}
 use Rattle.segments.specs.declared.Table.{Table}
 use Rattle.segments.specs.Segments.{Mode, any_names, is_of_slot, list_in, right_at, within}
-use Rattle.store.specs.Store.{Body, Slot, empty, holds, body_in, slot_at}
-use Rattle.model.specs.Model.{ByteRight, granted, recalled, in_slots, is_under, with_slot}
-use Rattle.model.specs.SlotsShown.{all_distinct, slots_in}
+use Rattle.store.specs.Store.{Slot, body_in, slot_at}
+use Rattle.model.specs.SlotsShown.{slots_in}
 use Rattle.soundness.specs.Sound.{has_slot, is_in_order}
-use Rattle.model.specs.Claim.{under_slot, with_body}
-use Rattle.model.specs.Invariants.{InSlot}
-use Rattle.model.proofs.ModelSlotLaws.{held_in, held_slot}
 use Rattle.model.proofs.SlotRights.{HoldsBody, Under}
 use Rattle.soundness.proofs.SoundParts.{Sounds, in_order, listed, named_in, slot_is}
 

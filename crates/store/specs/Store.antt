@@ -1,5 +1,5 @@
 -- The body store, which the scope paper calls the shelf: "a lent buffer of 32,768 bytes, 8 slots of 4,096".
-use Rattle.std.specs.Prelude.{ℕ, ◌+◌, ◌-◌, ◌*◌, List, [], ◌∷◌, ◌++◌, length, replicate, leb}
+use Rattle.std.specs.Prelude.{ℕ, ◌-◌, ◌*◌, List, [], ◌∷◌, ◌++◌, length, replicate, leb}
 use Rattle.base.specs.Limits.{slot_head_size, slot_size, store_size}
 use Rattle.base.specs.Answer.{pick}
 use Rattle.octets.specs.Buffers.{stored}

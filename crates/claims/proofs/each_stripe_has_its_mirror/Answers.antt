@@ -10,7 +10,6 @@ use Rattle.route.specs.declared.piece.Piece.{Piece}
 use Rattle.route.proofs.MirrorLaws.{one_named}
 use Rattle.route.proofs.PieceLaws.{mirrors_by_stripe, piece_in_request, stripe_of_byte}
 use Rattle.claims.specs.Statements.{InPiece, OneMirrorNamed}
-use lib.ListN.{length}
 use Rattle.claims.proofs.each_stripe_has_its_mirror.Goals as goal
 
 -- the mirror of a stripe, as a set

@@ -1,7 +1,7 @@
 -- `events::stages::apply` meets its contract: an unsound table, an event refused by itself, then `apply_command`.
 use borrow.Author.Tests.{not-false, not-true}
 use Rattle.base.proofs.AnswerLaws.{pick_true}
-use Rattle.base.specs.Answer.{Answer, refused}
+use Rattle.base.specs.Answer.{Answer}
 use Rattle.base.specs.declared.refusal.Refusal.TheVariants.{Unsound}
 use Rattle.events.proofs.EventLaws.{is_unsound, read_accepted, read_refused, refused_left}
 use Rattle.events.specs.Answers.{answer_of_command, event_of}

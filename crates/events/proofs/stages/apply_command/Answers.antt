@@ -1,6 +1,6 @@
 -- `events::stages::apply_command` meets its contract: the decision refuses, or the update is made.
 use Prim.Native.Nat.{ℕ, ◌+◌, ◌-◌}
-use Rattle.base.specs.Answer.{Answer, accepted, refused}
+use Rattle.base.specs.Answer.{Answer, accepted}
 use Rattle.events.proofs.EventLaws.{is_allowed, not_allowed, refused_left}
 use Rattle.events.specs.Answers.{answer_of_decision, action_of, command_of}
 use Rattle.events.specs.Events.{command_result, decision}

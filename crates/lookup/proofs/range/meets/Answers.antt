@@ -2,7 +2,7 @@
 use Rattle.lookup.specs.Lookup.{satisfies, table_meets}
 use Rattle.lookup.specs.declared.range.Condition.{Condition}
 use Rattle.segments.proofs.ModeLaws.{neither_is, one_is}
-use Rattle.segments.specs.Segments.{acts_on, any_meets, list_of}
+use Rattle.segments.specs.Segments.{any_meets, list_of}
 use Rattle.segments.specs.declared.Segments.{Segments}
 use Rattle.segments.specs.declared.Span.{Span}
 use mathlib.Core.Bool.{Bool}

@@ -1,7 +1,6 @@
 -- `report::check::errors_fit` meets its contract. The loop's invariant: the entries passed are allowed, so what is left decides. The measure
 -- is how many are left.
 use Rattle.report.proofs.EntryLaws.{fits_next, fits_none}
-use borrow.Author.Tests.{not-true, not-false}
 use native.Mathlib.Omega.{arith}
 use Rattle.report.proofs.check.errors_fit.Goals as goal
 

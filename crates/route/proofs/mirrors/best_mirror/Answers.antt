@@ -14,7 +14,7 @@ loop-m-preserved c =
     let l = c.loop-m in (
       omega arith,
       elim c.if-highest-e.branch [
-        then-highest-e w ↦ rw (w.best-is, w.highest-is) (picked_next _ l.m l.best l.highest _ l.invariant.1 c.efficiency-e.ensures w.if-highest-e.true)
+        | then-highest-e w ↦ rw (w.best-is, w.highest-is) (picked_next _ l.m l.best l.highest _ l.invariant.1 c.efficiency-e.ensures w.if-highest-e.true)
         | else-highest-e w ↦ rw (w.best-is, w.highest-is) (picked_still _ l.m l.best l.highest _ l.invariant.1 c.efficiency-e.ensures w.if-highest-e.false)
       ],
     )

@@ -1,5 +1,4 @@
 -- `soundness::bodies::is_filled` meets its contract, test by test.
-use Rattle.base.specs.Answer.{is_accepted}
 use Rattle.soundness.specs.Sound.{slot_sound}
 use borrow.Author.Tests.{eq-eqb, le-leb, lt-leb, ne_eqb}
 use mathlib.Core.Path.{sym, ◌∙◌}

@@ -9,7 +9,6 @@ use Rattle.segments.specs.Segments.{is_named}
 use Rattle.soundness.proofs.ValidSlotLaws.{none_started, read_elsewhere, read_here, read_none, read_unnamed, slot_fails, slot_passed, slots_none}
 use Rattle.soundness.specs.Validations.{layout_named}
 use Rattle.store.specs.Store.{body_in, slot_at}
-use borrow.Author.Tests.{not-false}
 use mathlib.Core.Bool.{true, false, false≢true}
 use mathlib.Core.Path.{◌≡◌, refl, sym, ap, ◌∙◌}
 use native.Mathlib.Omega.{arith}
@@ -22,7 +21,7 @@ loop-i-init c = (
   λ t e.
       let n = read_none t c.args.store.now c.args.asked.0 in
       (refl, c.unsound-none.ensures.answer ∙ n, c.unsound-none.ensures.starts ∙ none_started _ n),
-  )
+)
 
 pub returns-then-not-is_filled : goal.returns-then-not-is_filled
 returns-then-not-is_filled c =
@@ -58,37 +57,39 @@ loop-i-preserved c =
     let store = c.args.store.now in
     let asked = c.args.asked in (
       omega arith,
-      λ t e. let n = named_here t _ l.i e (omega arith) in elim c.if-named-k.branch [ then-named-k+else-not-is_filled+then-i-asked w ↦
-          (let q = w.is_filled.ensures w.read_layout-l.result.starts (w.read_layout-l.ensures.0 ∙ ap layout_body w.slot_body.ensures) in let
-          s : slot_sound (is_named t l.i) (slot_at store l.i) ≡ true = rw (
-            n ∙ w.if-named-k.true,
-            ← c.slot_bytes-slot.ensures,
-          ) (sym q ∙ w.if-not-is_filled.false) in let r = ap layout_body
-          (w.slot_body.ensures ∙ ap body_in c.slot_bytes-slot.ensures)
-          ∙ (read_here t store l.i (n ∙ w.if-named-k.true)
-          ∙ ap (λ (v : ℕ). layout_named t store v (l.i + 1)) w.if-i-asked.true) in (
-            (l.invariant.1 t e).0 ∙ slot_passed t store 8 l.i (omega arith) s,
-            rw w.read-is (w.read_layout-l.ensures.0 ∙ r),
-            rw w.read-is (w.read_layout-l.ensures.1 ∙ ap starts_in r),
-          ))
-          | then-named-k+else-not-is_filled+else-i-asked w ↦ (let q = w.is_filled.ensures w.read_layout-l.result.starts (w.read_layout-l.ensures.0 ∙ ap layout_body w.slot_body.ensures)
-          in let s : slot_sound (is_named t l.i) (slot_at store l.i) ≡ true = rw (
-            n ∙ w.if-named-k.true,
-            ← c.slot_bytes-slot.ensures,
-          ) (sym q ∙ w.if-not-is_filled.false) in let r = read_elsewhere t store asked.0 l.i w.if-i-asked.false in (
-            (l.invariant.1 t e).0 ∙ slot_passed t store 8 l.i (omega arith) s,
-            rw w.read-is ((l.invariant.1 t e).1 ∙ r),
-            rw w.read-is ((l.invariant.1 t e).2 ∙ ap starts_in r),
-          ))
-          | else-named-k+else-not-all_zero w ↦ (let s : slot_sound (is_named t l.i) (slot_at store l.i) ≡ true = rw (
-            n ∙ w.if-named-k.false,
-            ← c.slot_bytes-slot.ensures,
-          ) (sym w.all_zero.ensures ∙ w.if-not-all_zero.false) in let r = read_unnamed t store asked.0 l.i
-          (n ∙ w.if-named-k.false) in (
-            (l.invariant.1 t e).0 ∙ slot_passed t store 8 l.i (omega arith) s,
-            rw w.read-is ((l.invariant.1 t e).1 ∙ r),
-            rw w.read-is ((l.invariant.1 t e).2 ∙ ap starts_in r),
-          ))],
+      λ t e. let n = named_here t _ l.i e (omega arith) in elim c.if-named-k.branch [
+        | then-named-k+else-not-is_filled+then-i-asked w ↦
+            (let q = w.is_filled.ensures w.read_layout-l.result.starts (w.read_layout-l.ensures.0 ∙ ap layout_body w.slot_body.ensures) in let
+            s : slot_sound (is_named t l.i) (slot_at store l.i) ≡ true = rw (
+              n ∙ w.if-named-k.true,
+              ← c.slot_bytes-slot.ensures,
+            ) (sym q ∙ w.if-not-is_filled.false) in let r = ap layout_body
+            (w.slot_body.ensures ∙ ap body_in c.slot_bytes-slot.ensures)
+            ∙ (read_here t store l.i (n ∙ w.if-named-k.true)
+            ∙ ap (λ (v : ℕ). layout_named t store v (l.i + 1)) w.if-i-asked.true) in (
+              (l.invariant.1 t e).0 ∙ slot_passed t store 8 l.i (omega arith) s,
+              rw w.read-is (w.read_layout-l.ensures.0 ∙ r),
+              rw w.read-is (w.read_layout-l.ensures.1 ∙ ap starts_in r),
+            ))
+        | then-named-k+else-not-is_filled+else-i-asked w ↦ (let q = w.is_filled.ensures w.read_layout-l.result.starts (w.read_layout-l.ensures.0 ∙ ap layout_body w.slot_body.ensures)
+            in let s : slot_sound (is_named t l.i) (slot_at store l.i) ≡ true = rw (
+              n ∙ w.if-named-k.true,
+              ← c.slot_bytes-slot.ensures,
+            ) (sym q ∙ w.if-not-is_filled.false) in let r = read_elsewhere t store asked.0 l.i w.if-i-asked.false in (
+              (l.invariant.1 t e).0 ∙ slot_passed t store 8 l.i (omega arith) s,
+              rw w.read-is ((l.invariant.1 t e).1 ∙ r),
+              rw w.read-is ((l.invariant.1 t e).2 ∙ ap starts_in r),
+            ))
+        | else-named-k+else-not-all_zero w ↦ (let s : slot_sound (is_named t l.i) (slot_at store l.i) ≡ true = rw (
+          n ∙ w.if-named-k.false,
+          ← c.slot_bytes-slot.ensures,
+        ) (sym w.all_zero.ensures ∙ w.if-not-all_zero.false) in let r = read_unnamed t store asked.0 l.i
+            (n ∙ w.if-named-k.false) in (
+              (l.invariant.1 t e).0 ∙ slot_passed t store 8 l.i (omega arith) s,
+              rw w.read-is ((l.invariant.1 t e).1 ∙ r),
+              rw w.read-is ((l.invariant.1 t e).2 ∙ ap starts_in r),
+            ))
+      ],
     )
 
 pub returns : goal.returns

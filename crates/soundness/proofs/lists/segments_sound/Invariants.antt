@@ -1,6 +1,6 @@
 use Prim.Native.Nat.{◌-◌, ◌≤◌}
 use Rattle.soundness.specs.Sound.{all_blank, is_in_order}
-use Rattle.segments.specs.Segments.{blank, list_of}
+use Rattle.segments.specs.Segments.{list_of}
 use lib.ListN.{drop}
 use mathlib.Core.Bool.{◌&&◌}
 use mathlib.Core.Path.{◌≡◌}
