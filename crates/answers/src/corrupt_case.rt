@@ -3,18 +3,20 @@ use crate::state::{State, start};
 use base::{MOST_SEGMENTS, SlotNumber};
 use print::print_text;
 use segments::{Right, Segment, Segments, Table};
+use std::io;
+use std::io::Write;
 
 // The payload has: offset, value.
-pub(crate) fn set_byte(payload: &[u8], store: &mut [u8]) {
+pub(crate) fn set_byte(out: &mut impl Write, payload: &[u8], store: &mut [u8]) -> io::Result<()> {
     let index = octets::le4(payload, 0) as usize;
     if store.len() <= index {
-        return;
+        return Ok(());
     }
     if payload.len() != 5 {
-        return;
+        return Ok(());
     }
     store[index] = payload[4];
-    print_text(b"set-byte done");
+    print_text(out, b"set-byte done")
 }
 
 fn right_of(right: u32, slot: u32) -> Right {
@@ -25,28 +27,13 @@ fn right_of(right: u32, slot: u32) -> Right {
     }
 }
 
-fn is_blank(s: Segment) -> bool {
-    if s.first != 0 {
-        return false;
-    }
-    if s.last != 0 {
-        return false;
-    }
-    let right = s.right;
-    segments::same_right(Right::None, right)
+fn is_blank(s: &Segment) -> bool {
+    s.first == 0 && s.last == 0 && matches!(s.right, Right::None)
 }
 
 // The number of entries before the first blank one.
-fn count_of(items: [Segment; MOST_SEGMENTS]) -> usize {
-    let mut i: usize = 0;
-    while i < MOST_SEGMENTS {
-        let s = items[i];
-        if is_blank(s) {
-            return i;
-        }
-        i += 1;
-    }
-    MOST_SEGMENTS
+fn count_of(items: &[Segment]) -> usize {
+    items.iter().position(is_blank).unwrap_or(items.len())
 }
 
 // An index past the last one changes nothing.
@@ -56,25 +43,21 @@ fn with_entry(g: Segments, index: usize, s: Segment) -> Segments {
     }
     let mut items = g.items;
     items[index] = s;
-    Segments {
-        items,
-        count: count_of(items),
-    }
+    let count = count_of(&items);
+    Segments { items, count }
 }
 
 // The payload has: iomode, index, first, last, right, slot.
 fn segment_of(payload: &[u8]) -> Segment {
-    let right = right_of(octets::le4(payload, 24), octets::le4(payload, 28));
     Segment {
         first: octets::le8(payload, 8),
         last: octets::le8(payload, 16),
-        right,
+        right: right_of(octets::le4(payload, 24), octets::le4(payload, 28)),
     }
 }
 
 fn with_segment(t: Table, iomode: u32, index: usize, s: Segment) -> Table {
-    let read = t.read;
-    let rw = t.rw;
+    let Table { read, rw } = t;
     if iomode == 1 {
         return Table {
             read: with_entry(read, index, s),
@@ -87,30 +70,31 @@ fn with_segment(t: Table, iomode: u32, index: usize, s: Segment) -> Table {
     }
 }
 
-pub(crate) fn set_segment(payload: &[u8], state: State) -> State {
+pub(crate) fn set_segment(out: &mut impl Write, payload: &[u8], state: State) -> io::Result<State> {
     let iomode = octets::le4(payload, 0);
     let index = octets::le4(payload, 4) as usize;
-    let before = state.table;
-    let table = with_segment(before, iomode, index, segment_of(payload));
-    print_text(b"set-segment done");
-    State {
+    let table = with_segment(state.table, iomode, index, segment_of(payload));
+    print_text(out, b"set-segment done")?;
+    Ok(State {
         table,
         borrowed: state.borrowed,
-    }
+    })
 }
 
-pub(crate) fn reset(store: &mut [u8]) -> State {
-    let size = store.len();
-    octets::put_zeros(store, 0, size);
-    print_text(b"reset done");
-    start()
+pub(crate) fn reset(out: &mut impl Write, store: &mut [u8]) -> io::Result<State> {
+    store.fill(0);
+    print_text(out, b"reset done")?;
+    Ok(start())
 }
 
-pub(crate) fn set_borrowed(payload: &[u8], state: State) -> State {
-    let table = state.table;
-    print_text(b"lend done");
-    State {
-        table,
+pub(crate) fn set_borrowed(
+    out: &mut impl Write,
+    payload: &[u8],
+    state: State,
+) -> io::Result<State> {
+    print_text(out, b"lend done")?;
+    Ok(State {
+        table: state.table,
         borrowed: octets::le4(payload, 0) as usize,
-    }
+    })
 }

@@ -2,21 +2,23 @@
 use crate::state::State;
 use events::{Event, Numbers, Verdict};
 use print::{print_refused, print_text};
+use std::io;
+use std::io::Write;
 
-fn print_name(kind: u32) {
+fn print_name(out: &mut impl Write, kind: u32) -> io::Result<()> {
     match kind {
-        1 => print_text(b"grant"),
-        4 => print_text(b"recall"),
-        5 => print_text(b"revoke"),
-        _ => print_text(b"return"),
+        1 => print_text(out, b"grant"),
+        4 => print_text(out, b"recall"),
+        5 => print_text(out, b"revoke"),
+        _ => print_text(out, b"return"),
     }
 }
 
-fn print_verdict(kind: u32, v: Verdict) {
-    print_name(kind);
+fn print_verdict(out: &mut impl Write, kind: u32, v: Verdict) -> io::Result<()> {
+    print_name(out, kind)?;
     match v {
-        Verdict::Accepted => print_text(b" accepted"),
-        Verdict::Refused(e) => print_refused(e),
+        Verdict::Accepted => print_text(out, b" accepted"),
+        Verdict::Refused(e) => print_refused(out, e),
     }
 }
 
@@ -38,19 +40,26 @@ fn event_of(kind: u32, payload: &[u8]) -> Event {
     }
 }
 
-pub(crate) fn take_event(kind: u32, payload: &[u8], state: State, store: &mut [u8]) -> State {
+pub(crate) fn take_event(
+    out: &mut impl Write,
+    kind: u32,
+    payload: &[u8],
+    state: State,
+    store: &mut [u8],
+) -> io::Result<State> {
     let borrowed = state.borrowed;
     if store.len() < borrowed {
-        return state;
+        return Ok(state);
     }
-    let table = state.table;
-    let e = event_of(kind, payload);
-    let o = events::apply(table, &mut store[..borrowed], e, payload);
-    let verdict = o.verdict;
-    let left = o.table;
-    print_verdict(kind, verdict);
-    State {
-        table: left,
+    let o = events::apply(
+        state.table,
+        &mut store[..borrowed],
+        event_of(kind, payload),
+        payload,
+    );
+    print_verdict(out, kind, o.verdict)?;
+    Ok(State {
+        table: o.table,
         borrowed,
-    }
+    })
 }

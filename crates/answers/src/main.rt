@@ -9,83 +9,105 @@ mod state;
 
 use base::STORE_SIZE;
 use case::Case;
-use libc::STDOUT_FILENO;
-use print::print_field;
+use print::{print_field, print_text};
 use state::State;
+use std::io;
+use std::io::{BufRead, BufWriter, Write};
 
 // A case that keeps nothing.
-fn print_wire_case(kind: u32, payload: &[u8]) {
+fn print_wire_case(out: &mut impl Write, kind: u32, payload: &[u8]) -> io::Result<()> {
     match kind {
-        64 => wire_cases::print_layout(payload),
-        65 => wire_cases::print_layout4(payload),
-        66 => wire_cases::print_device(payload),
-        67 => wire_cases::print_bind(payload),
-        68 => wire_cases::print_report_read(payload),
-        69 => wire_cases::print_report_write(payload),
-        _ => wire_cases::print_return_write(payload),
+        64 => wire_cases::print_layout(out, payload),
+        65 => wire_cases::print_layout4(out, payload),
+        66 => wire_cases::print_device(out, payload),
+        67 => wire_cases::print_bind(out, payload),
+        68 => wire_cases::print_report_read(out, payload),
+        69 => wire_cases::print_report_write(out, payload),
+        _ => wire_cases::print_return_write(out, payload),
     }
 }
 
 // A case that leaves the table as it is.
-fn print_case(kind: u32, payload: &[u8], state: State, store: &mut [u8]) {
-    let table = state.table;
+fn print_case(
+    out: &mut impl Write,
+    kind: u32,
+    payload: &[u8],
+    state: &State,
+    store: &mut [u8],
+) -> io::Result<()> {
     match kind {
-        70 | 71 => table_cases::print_locate(kind == 71, payload, table, store, state.borrowed),
-        72 => table_cases::print_table(table),
-        73 => table_cases::print_store(store),
-        74 => corrupt_case::set_byte(payload, store),
-        _ => print_wire_case(kind, payload),
+        70 | 71 => table_cases::print_locate(
+            out,
+            kind == 71,
+            payload,
+            state.table,
+            store,
+            state.borrowed,
+        ),
+        72 => table_cases::print_table(out, &state.table),
+        73 => table_cases::print_store(out, store),
+        74 => corrupt_case::set_byte(out, payload, store),
+        _ => print_wire_case(out, kind, payload),
     }
 }
 
 // Puts a case to the core, and writes its line but for the end. The payload has the kind's form.
-fn take_case(kind: u32, payload: &[u8], state: State, store: &mut [u8]) -> State {
+fn take_case(
+    out: &mut impl Write,
+    kind: u32,
+    payload: &[u8],
+    state: State,
+    store: &mut [u8],
+) -> io::Result<State> {
     match kind {
-        1 | 4 | 5 | 9 => event_case::take_event(kind, payload, state, store),
-        75 => corrupt_case::set_segment(payload, state),
-        76 => corrupt_case::reset(store),
-        77 => corrupt_case::set_borrowed(payload, state),
+        1 | 4 | 5 | 9 => event_case::take_event(out, kind, payload, state, store),
+        75 => corrupt_case::set_segment(out, payload, state),
+        76 => corrupt_case::reset(out, store),
+        77 => corrupt_case::set_borrowed(out, payload, state),
         _ => {
-            print_case(kind, payload, state, store);
-            state
+            print_case(out, kind, payload, &state, store)?;
+            Ok(state)
         }
     }
 }
 
-// Whether the line's end could be written.
-fn end_line() -> bool {
-    io::write_all(STDOUT_FILENO, b"\n")
+fn end_line(out: &mut impl Write) -> io::Result<()> {
+    print_text(out, b"\n")
 }
 
 // The run's last line.
-fn print_last(r: Case, offset: u64) {
+fn print_last(out: &mut impl Write, r: Case, offset: u64) -> io::Result<()> {
     match r {
-        Case::End => print_field(b"end ", offset),
-        _ => print_field(b"stop ", offset),
+        Case::End => print_field(out, b"end ", offset)?,
+        _ => print_field(out, b"stop ", offset)?,
     }
-    end_line();
+    end_line(out)
 }
 
 // A proved loop has to end, and nothing says that a file does. So the offset is bounded, by more than any file has.
-fn main() {
+fn answer_file(input: &mut impl BufRead, out: &mut impl Write) -> io::Result<()> {
     let mut payload = [0u8; 16000];
     let mut store = [0u8; STORE_SIZE];
     let mut state = state::start();
     let mut offset: u64 = 0;
     while offset < 9223372036854775808 {
-        let r = case::read_case(&mut payload);
+        let r = case::read_case(input, &mut payload)?;
         let Case::Of(kind, length) = r else {
-            print_last(r, offset);
-            return;
+            return print_last(out, r, offset);
         };
         let size = length as usize;
         if payload.len() < size {
-            return;
+            return Ok(());
         }
-        state = take_case(kind, &payload[..size], state, &mut store);
-        if !end_line() {
-            return;
-        }
+        state = take_case(out, kind, &payload[..size], state, &mut store)?;
+        end_line(out)?;
         offset += case::HEAD + length as u64;
     }
+    Ok(())
+}
+
+fn main(rt: HostRuntime) -> io::Result<()> {
+    let mut out = BufWriter::new(rt.alloc(), io::writer(&rt))?;
+    answer_file(&mut rt.reader(), &mut out)?;
+    out.flush()
 }

@@ -2,7 +2,7 @@
 use base::STORE_SIZE;
 use segments::Table;
 
-#[derive(Drop)]
+#[derive(Clone, Copy)]
 pub struct State {
     pub table: Table,
     // How many bytes of the store a call borrows.

@@ -1,7 +1,10 @@
 // What the words after the file's name ask for.
 use print::print_text;
+use std::env::{Env, FillError};
+use std::io;
+use std::io::Write;
 
-#[derive(Drop)]
+#[derive(Clone, Copy)]
 pub struct Options {
     // The first offset, if numbers is not 0.
     pub first: u64,
@@ -11,13 +14,13 @@ pub struct Options {
     pub numbers: u32,
 }
 
-#[derive(Drop)]
+#[derive(Clone, Copy)]
 pub enum ReadOptions {
     Value(Options),
     Invalid,
 }
 
-#[derive(Drop)]
+#[derive(Clone, Copy)]
 pub enum ReadNumber {
     Value(u64),
     None,
@@ -25,38 +28,30 @@ pub enum ReadNumber {
 
 const MOST_UNITS: u64 = 64;
 
-pub(crate) fn print_usage() {
-    print_text(b"usage: chart FILE [FIRST [UNITS]] [svg]\n");
+pub(crate) fn print_usage(out: &mut impl Write) -> io::Result<()> {
+    print_text(out, b"usage: chart FILE [FIRST [UNITS]] [svg]\n")?;
+    print_text(out, b"FILE has one layout4 as on the wire. ")?;
     print_text(
-        b"FILE has one layout4 as on the wire. The chart shows UNITS stripe units, 1 to 64, from the offset FIRST on.\n",
-    );
+        out,
+        b"The chart shows UNITS stripe units, 1 to 64, from the offset FIRST on.\n",
+    )
 }
 
 // A decimal number below 2^64.
 fn read_number(text: &[u8]) -> ReadNumber {
-    let mut v: u64 = 0;
-    let mut i: usize = 0;
-    while i < text.len() {
-        let b = text[i];
-        if b < 48 {
-            return ReadNumber::None;
-        }
-        if 57 < b {
-            return ReadNumber::None;
-        }
-        if 1844674407370955161 < v {
-            return ReadNumber::None;
-        }
-        let tens = v * 10;
-        let digit = (b - 48) as u64;
-        if u64::MAX - tens < digit {
-            return ReadNumber::None;
-        }
-        v = tens + digit;
-        i += 1;
-    }
-    if i == 0 {
+    if text.is_empty() {
         return ReadNumber::None;
+    }
+    let mut v: u64 = 0;
+    for b in text {
+        if !b.is_ascii_digit() {
+            return ReadNumber::None;
+        }
+        let digit = u64::from(*b - b'0');
+        match v.checked_mul(10).and_then(|tens| tens.checked_add(digit)) {
+            Some(next) => v = next,
+            None => return ReadNumber::None,
+        }
     }
     ReadNumber::Value(v)
 }
@@ -89,46 +84,44 @@ fn with_word(w: Options, word: &[u8]) -> ReadOptions {
         r.svg = true;
         return ReadOptions::Value(r);
     }
-    let n = read_number(word);
-    let ReadNumber::Value(v) = n else {
-        return ReadOptions::Invalid;
-    };
-    with_number(w, v)
+    match read_number(word) {
+        ReadNumber::Value(v) => with_number(w, v),
+        ReadNumber::None => ReadOptions::Invalid,
+    }
 }
 
-// The word of one argument. A word longer than the buffer is no word of the options.
-fn with_argument(w: Options, i: usize) -> ReadOptions {
+// The options with the word of one argument, if there is one. A word longer than the buffer is no word of the options.
+fn with_argument(rt: &impl Env, w: Options, i: usize) -> ReadOptions {
     let mut word = [0u8; 32];
-    let n = os::arg(i, &mut word);
-    if os::errno() != 0 {
-        return ReadOptions::Invalid;
+    match rt.arg(i, &mut word) {
+        Ok(n) => with_word(w, &word[..n]),
+        Err(FillError::NotPresent) => ReadOptions::Value(w),
+        Err(FillError::TooLong) => ReadOptions::Invalid,
     }
-    with_word(w, &word[..n])
+}
+
+// Whether there is an argument of that number, however long.
+fn has_argument(rt: &impl Env, i: usize) -> bool {
+    let mut nothing = [0u8; 0];
+    !matches!(rt.arg(i, &mut nothing), Err(FillError::NotPresent))
 }
 
 // At most three words are after the file's name.
-pub(crate) fn read_options() -> ReadOptions {
-    let count = os::arg_count();
+pub(crate) fn read_options(rt: &impl Env) -> ReadOptions {
+    if !has_argument(rt, 1) || has_argument(rt, 5) {
+        return ReadOptions::Invalid;
+    }
     let mut w = Options {
         first: 0,
         units: 8,
         svg: false,
         numbers: 0,
     };
-    if count < 2 {
-        return ReadOptions::Invalid;
-    }
-    if 5 < count {
-        return ReadOptions::Invalid;
-    }
-    let mut i: usize = 2;
-    while i < count {
-        let r = with_argument(w, i);
-        let ReadOptions::Value(next) = r else {
+    for i in 2..5 {
+        let ReadOptions::Value(next) = with_argument(rt, w, i) else {
             return ReadOptions::Invalid;
         };
         w = next;
-        i += 1;
     }
     ReadOptions::Value(w)
 }

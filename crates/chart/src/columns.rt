@@ -22,17 +22,13 @@ fn gap(first: u64, offset: u64) -> u64 {
 
 // The core is asked for the longest request that starts here.
 fn column_at(t: Table, store: &[u8], write: bool, first: u64, offset: u64) -> Column {
-    let l = route::locate(t, store, write, offset, LARGEST_SUM - offset);
-    match l {
-        Located::At(p) => {
-            let stripe = p.stripe;
-            Column {
-                offset,
-                length: p.length,
-                stripe,
-                mirrors: p.mirrors,
-            }
-        }
+    match route::locate(t, store, write, offset, LARGEST_SUM - offset) {
+        Located::At(p) => Column {
+            offset,
+            length: p.length,
+            stripe: p.stripe,
+            mirrors: p.mirrors,
+        },
         Located::Refused(_) => Column {
             offset,
             length: gap(first, offset),
@@ -61,18 +57,13 @@ pub(crate) fn find_columns(
 ) -> Columns {
     let mut items = [NO_COLUMN; 64];
     let mut offset = from;
-    let mut i: usize = 0;
-    while i < 64 {
-        if units <= i {
-            return Columns { items, count: i };
-        }
-        if offset == LARGEST_SUM {
+    for i in 0..64 {
+        if units <= i || offset == LARGEST_SUM {
             return Columns { items, count: i };
         }
         let c = column_at(t, store, write, first, offset);
         items[i] = c;
         offset = next_offset(offset, c.length);
-        i += 1;
     }
     Columns { items, count: 64 }
 }

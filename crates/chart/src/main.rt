@@ -18,6 +18,9 @@ use layout4::{Layout4, Layout4Answer};
 use print::print_text;
 use refusal_text::print_refused;
 use segments::Table;
+use std::io;
+use std::io::{BufWriter, Write};
+use std::rt::{Env, Files};
 
 // The offset that a chart begins at: the one asked for, else the layout's own.
 fn first_offset(options: Options, own: u64) -> u64 {
@@ -29,24 +32,18 @@ fn first_offset(options: Options, own: u64) -> u64 {
 
 // How many columns a chart has at most: as many as asked for, else enough that each server of a mirror has one.
 fn units_shown(options: Options, servers: u32) -> usize {
-    let each = servers as usize;
     if options.numbers == 2 {
         return options.units;
     }
-    if options.units < each {
-        return each;
-    }
-    options.units
+    options.units.max(servers as usize)
 }
 
-fn writes(iomode: Iomode) -> bool {
-    match iomode {
-        Iomode::Read => false,
-        _ => true,
-    }
+fn writes(iomode: &Iomode) -> bool {
+    !matches!(iomode, Iomode::Read)
 }
 
 fn draw(
+    out: &mut impl Write,
     bytes: &[u8],
     store: &[u8],
     t: Table,
@@ -54,14 +51,15 @@ fn draw(
     summary: Summary,
     starts: [u16; MOST_STARTS],
     options: Options,
-) {
-    let iomode = layout.iomode;
+) -> io::Result<()> {
     let from = first_offset(options, layout.offset);
     let units = units_shown(options, summary.servers);
-    let columns = find_columns(t, store, writes(iomode), layout.offset, from, units);
+    let columns = find_columns(t, store, writes(&layout.iomode), layout.offset, from, units);
     if columns.count == 0 {
-        print_text(b"nothing to draw: no I/O reaches byte 18446744073709551615\n");
-        return;
+        return print_text(
+            out,
+            b"nothing to draw: no I/O reaches byte 18446744073709551615\n",
+        );
     }
     let s = ChartInput {
         layout,
@@ -70,47 +68,45 @@ fn draw(
         columns,
     };
     if options.svg {
-        drawing::draw_picture(bytes, s);
-        return;
+        return drawing::draw_picture(out, bytes, &s);
     }
-    drawing::draw_text(bytes, s);
+    drawing::draw_text(out, bytes, &s)
 }
 
 // The layout is granted to an empty table with an empty store, and the chart shows what is answered from these.
-fn chart(bytes: &[u8], options: Options) {
+fn chart(out: &mut impl Write, bytes: &[u8], options: Options) -> io::Result<()> {
     let mut store = [0u8; STORE_SIZE];
     let o = events::apply(segments::empty_table(), &mut store, Event::Grant, bytes);
-    let v = o.verdict;
-    if let Verdict::Refused(e) = v {
-        print_refused(e);
-        return;
+    if let Verdict::Refused(e) = o.verdict {
+        return print_refused(out, e);
     }
     let r = layout4::read_layout4(bytes);
-    let a = r.answer;
-    let Layout4Answer::Value(layout, summary) = a else {
-        print_refused(Refusal::Fault(layout4::fault_of_layout4(a)));
-        return;
+    let Layout4Answer::Value(layout, summary) = r.answer else {
+        return print_refused(out, Refusal::Fault(layout4::fault_of_layout4(r.answer)));
     };
-    let t = o.table;
-    let starts = r.starts;
-    draw(bytes, &store, t, layout, summary, starts, options);
+    draw(
+        out, bytes, &store, o.table, layout, summary, r.starts, options,
+    )
 }
 
 // The longest layout4 has 4,120 bytes. Of a longer file the bytes that the buffer holds are refused just as all of
 // them are.
-fn main() {
-    let w = arguments::read_options();
-    let ReadOptions::Value(options) = w else {
-        arguments::print_usage();
-        return;
+fn run<R: Env + Files + Eprint + Alloc>(rt: &R, out: &mut impl Write) -> io::Result<()> {
+    let ReadOptions::Value(options) = arguments::read_options(rt) else {
+        return arguments::print_usage(out);
     };
     let mut bytes = [0u8; 8192];
-    let f = file::read_file(&mut bytes);
-    let ReadFile::Length(n) = f else {
-        return;
+    let ReadFile::Length(n) = file::read_file(rt, &mut bytes)? else {
+        return Ok(());
     };
     if bytes.len() < n {
-        return;
+        return Ok(());
     }
-    chart(&bytes[..n], options);
+    chart(out, &bytes[..n], options)
+}
+
+fn main(rt: HostRuntime) -> io::Result<()> {
+    let mut out = BufWriter::new(rt.alloc(), io::writer(&rt))?;
+    run(&rt, &mut out)?;
+    out.flush()
 }

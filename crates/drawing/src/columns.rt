@@ -3,7 +3,7 @@ use base::{MOST_MIRRORS, MirrorNumber, StripeNumber, larger};
 use print::digits;
 
 // The bytes from an offset on, and where they go. Without mirrors there is no right.
-#[derive(Drop)]
+#[derive(Clone, Copy)]
 pub struct Column {
     pub offset: u64,
     pub length: u64,
@@ -11,38 +11,38 @@ pub struct Column {
     pub mirrors: u32,
 }
 
-#[derive(Drop)]
+#[derive(Clone, Copy)]
 pub struct Columns {
     pub items: [Column; 64],
     pub count: usize,
 }
 
+impl Columns {
+    // Those that the chart has.
+    pub(crate) fn shown(&self) -> &[Column] {
+        &self.items[..self.count.min(self.items.len())]
+    }
+}
+
 // Whether the bytes of a column go to the server of a mirror and a stripe.
-pub(crate) fn goes_to(c: Column, m: MirrorNumber, k: StripeNumber) -> bool {
+pub(crate) fn goes_to(c: &Column, m: MirrorNumber, k: StripeNumber) -> bool {
     if MOST_MIRRORS <= m.0 {
         return false;
     }
     if c.mirrors >> m.0 & 1 == 0 {
         return false;
     }
-    let stripe = c.stripe;
-    stripe.0 == k.0
+    c.stripe.0 == k.0
 }
 
 // How many digits the longest offset or length has, at least six.
-pub(crate) fn widest(columns: Columns) -> u64 {
+pub(crate) fn widest(columns: &Columns) -> u64 {
     let mut width: u64 = 6;
-    let mut i: usize = 0;
-    while i < 64 {
-        if columns.count <= i {
-            return width;
-        }
-        let c = columns.items[i];
+    for c in columns.shown() {
         width = larger(width, digits(c.offset));
         if c.mirrors != 0 {
             width = larger(width, digits(c.length));
         }
-        i += 1;
     }
     width
 }

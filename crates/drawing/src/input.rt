@@ -5,7 +5,7 @@ use layout::Summary;
 use layout4::Layout4;
 use server::SERVER_EFFICIENCY_OFFSET;
 
-#[derive(Drop)]
+#[derive(Clone, Copy)]
 pub struct ChartInput {
     pub layout: Layout4,
     pub summary: Summary,
@@ -14,15 +14,12 @@ pub struct ChartInput {
 }
 
 // Where in the file a mirror's server starts, with its device id.
-pub(crate) fn server_at(s: ChartInput, m: MirrorNumber, k: StripeNumber) -> usize {
-    let layout = s.layout;
-    let body = layout.body;
-    let start = body.start;
+pub(crate) fn server_at(s: &ChartInput, m: MirrorNumber, k: StripeNumber) -> usize {
+    let start = s.layout.body.start;
     if 65536 < start {
         return start;
     }
-    let starts = s.starts;
-    start + layout::start_of(starts, m, k) as usize
+    start + layout::start_of(s.starts, m, k) as usize
 }
 
 // The efficiency of the server that starts at an offset; 0 where its bytes run out.

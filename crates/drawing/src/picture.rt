@@ -5,6 +5,8 @@ use crate::input::{ChartInput, efficiency_at, server_at};
 use base::{MirrorNumber, StripeNumber, larger};
 use layout::Summary;
 use print::{print_device_id, print_field, print_fields, print_text};
+use std::io;
+use std::io::Write;
 use svg::{
     print_box, print_edge, print_entry, print_label, print_lane, print_line, print_size,
     print_style,
@@ -21,7 +23,7 @@ const LANE: u64 = 42;
 const BETWEEN: u64 = 18;
 
 // What a layer shows of each column, and how far down.
-#[derive(Drop)]
+#[derive(Clone, Copy)]
 pub enum Layer {
     Offsets(u64),
     Lengths(u64),
@@ -33,60 +35,43 @@ pub enum Layer {
 
 // A coordinate further on. No picture reaches the largest number.
 fn add_capped(value: u64, by: u64) -> u64 {
-    if u64::MAX - value < by {
-        return value;
-    }
-    value + by
+    value.checked_add(by).unwrap_or(value)
 }
 
-fn print_mark(layer: Layer, c: Column, x: u64) {
+fn print_mark(out: &mut impl Write, layer: Layer, c: &Column, x: u64) -> io::Result<()> {
     match layer {
-        Layer::Offsets(y) => print_label(add_capped(x, 10), y, b"-40", c.offset),
-        Layer::Lengths(y) => {
-            if c.mirrors != 0 {
-                print_label(add_capped(x, 10), y, b"40", c.length);
-            }
+        Layer::Offsets(y) => print_label(out, add_capped(x, 10), y, b"-40", c.offset),
+        Layer::Lengths(y) if c.mirrors != 0 => print_label(
+            out,
+            add_capped(x, 10),
+            y,
+            b"40",
+            c.length,
+        ),
+        Layer::Lines(from, to) => print_line(out, x, from, to),
+        Layer::Boxes(m, k, y) if goes_to(c, m, k) => {
+            let x = add_capped(x, 3);
+            print_box(out, x, y, c.offset, c.length, m.0 as u64, c.stripe.0 as u64)
         }
-        Layer::Lines(from, to) => print_line(x, from, to),
-        Layer::Boxes(m, k, y) => {
-            if goes_to(c, m, k) {
-                let stripe = c.stripe;
-                print_box(
-                    add_capped(x, 3),
-                    y,
-                    c.offset,
-                    c.length,
-                    m.0 as u64,
-                    stripe.0 as u64,
-                );
-            }
-        }
+        Layer::Lengths(_) | Layer::Boxes(..) => Ok(()),
     }
 }
 
 // A layer, column after column; the coordinate after the last column.
-fn print_layer(layer: Layer, columns: Columns) -> u64 {
+fn print_layer(out: &mut impl Write, layer: Layer, columns: &Columns) -> io::Result<u64> {
     let mut x = LEFT;
-    let mut i: usize = 0;
-    while i < 64 {
-        if columns.count <= i {
-            return x;
-        }
-        let c = columns.items[i];
-        print_mark(layer, c, x);
+    for c in columns.shown() {
+        print_mark(out, layer, c, x)?;
         x = add_capped(x, COLUMN);
-        i += 1;
     }
-    x
+    Ok(x)
 }
 
 // How long the lanes are.
-fn lane_width(columns: Columns) -> u64 {
+fn lane_width(columns: &Columns) -> u64 {
     let mut width: u64 = 0;
-    let mut i: usize = 0;
-    while i < columns.count {
+    for _ in 0..columns.count {
         width = add_capped(width, COLUMN);
-        i += 1;
     }
     width
 }
@@ -94,130 +79,164 @@ fn lane_width(columns: Columns) -> u64 {
 // How far down and to the right a slanting label of so many digits reaches.
 fn label_room(digits: u64) -> u64 {
     let mut room: u64 = 24;
-    let mut i: u64 = 0;
-    while i < digits {
+    for _ in 0..digits {
         room = add_capped(room, 5);
-        i += 1;
     }
     room
 }
 
 // The coordinate of the lanes' lower end.
-fn lower_end(summary: Summary, top: u64) -> u64 {
+fn lower_end(summary: &Summary, top: u64) -> u64 {
     let mut y = top;
-    let mut m: u32 = 0;
-    while m < summary.mirrors {
+    for _ in 0..summary.mirrors {
         y = add_capped(y, summary.servers as u64 * LANE);
         y = add_capped(y, BETWEEN);
-        m += 1;
     }
     y
 }
 
-fn print_name(bytes: &[u8], s: ChartInput, m: MirrorNumber, k: StripeNumber, y: u64) {
+fn print_name(
+    out: &mut impl Write,
+    bytes: &[u8],
+    s: &ChartInput,
+    m: MirrorNumber,
+    k: StripeNumber,
+    y: u64,
+) -> io::Result<()> {
     let at = server_at(s, m, k);
     let efficiency = efficiency_at(bytes, at) as u64;
     let values = [add_capped(y, 15), m.0 as u64, k.0 as u64, efficiency];
     print_fields(
+        out,
         b"<text x=\"28\" y=\"#\">mirror #, stripe #, efficiency #</text>\n",
         &values,
-    );
-    print_field(b"<text class=\"mono\" x=\"28\" y=\"", add_capped(y, 31));
-    print_text(b"\">device ");
-    print_device_id(bytes, at);
-    print_text(b"</text>\n");
+    )?;
+    print_field(
+        out,
+        b"<text class=\"mono\" x=\"28\" y=\"",
+        add_capped(y, 31),
+    )?;
+    print_text(out, b"\">device ")?;
+    print_device_id(out, bytes, at)?;
+    print_text(out, b"</text>\n")
 }
 
-fn print_server(bytes: &[u8], s: ChartInput, m: MirrorNumber, k: StripeNumber, y: u64, width: u64) {
-    print_name(bytes, s, m, k, y);
-    print_lane(LEFT, y, width);
-    let columns = s.columns;
-    print_layer(Layer::Boxes(m, k, y), columns);
+fn print_server(
+    out: &mut impl Write,
+    bytes: &[u8],
+    s: &ChartInput,
+    m: MirrorNumber,
+    k: StripeNumber,
+    y: u64,
+    width: u64,
+) -> io::Result<()> {
+    print_name(out, bytes, s, m, k, y)?;
+    print_lane(out, LEFT, y, width)?;
+    print_layer(out, Layer::Boxes(m, k, y), &s.columns)?;
+    Ok(())
 }
 
 // The lanes of a mirror, from a coordinate downwards; the coordinate after them.
-fn print_mirror(bytes: &[u8], s: ChartInput, m: MirrorNumber, from: u64, width: u64) -> u64 {
-    let summary = s.summary;
+fn print_mirror(
+    out: &mut impl Write,
+    bytes: &[u8],
+    s: &ChartInput,
+    m: MirrorNumber,
+    from: u64,
+    width: u64,
+) -> io::Result<u64> {
     let mut y = from;
-    let mut k: u32 = 0;
-    while k < summary.servers {
-        print_server(bytes, s, m, StripeNumber(k), y, width);
+    for k in 0..s.summary.servers {
+        print_server(out, bytes, s, m, StripeNumber(k), y, width)?;
         y = add_capped(y, LANE);
-        k += 1;
     }
-    add_capped(y, BETWEEN)
+    Ok(add_capped(y, BETWEEN))
 }
 
-fn print_mirrors(bytes: &[u8], s: ChartInput, top: u64, width: u64) {
-    let summary = s.summary;
+fn print_mirrors(
+    out: &mut impl Write,
+    bytes: &[u8],
+    s: &ChartInput,
+    top: u64,
+    width: u64,
+) -> io::Result<()> {
     let mut y = top;
-    let mut m: u32 = 0;
-    while m < summary.mirrors {
-        y = print_mirror(bytes, s, MirrorNumber(m), y, width);
-        m += 1;
+    for m in 0..s.summary.mirrors {
+        y = print_mirror(out, bytes, s, MirrorNumber(m), y, width)?;
     }
+    Ok(())
 }
 
 // Of the lines here the longest has 700 pixels, in a wide font.
-fn print_head(s: ChartInput) {
-    let layout = s.layout;
-    let iomode = layout.iomode;
-    let summary = s.summary;
+fn print_head(out: &mut impl Write, s: &ChartInput) -> io::Result<()> {
     print_text(
-        b"<rect width=\"100%\" height=\"100%\" fill=\"#ffffff\"/>\n<text class=\"title\" x=\"28\" y=\"46\">Stripe chart</text>\n<text x=\"28\" y=\"76\">",
-    );
-    print_range(layout);
-    print_text(b"</text>\n<text x=\"28\" y=\"98\">");
-    print_summary(summary);
-    print_text(b"</text>\n<text x=\"28\" y=\"120\">");
-    print_box_key(iomode);
-    print_text(b"</text>\n<text x=\"28\" y=\"142\">");
-    print_gap_key();
-    print_text(b"</text>\n");
+        out,
+        b"<rect width=\"100%\" height=\"100%\" fill=\"#ffffff\"/>\n",
+    )?;
+    print_text(
+        out,
+        b"<text class=\"title\" x=\"28\" y=\"46\">Stripe chart</text>\n<text x=\"28\" y=\"76\">",
+    )?;
+    print_range(out, &s.layout)?;
+    print_text(out, b"</text>\n<text x=\"28\" y=\"98\">")?;
+    print_summary(out, &s.summary)?;
+    print_text(out, b"</text>\n<text x=\"28\" y=\"120\">")?;
+    print_box_key(out, &s.layout.iomode)?;
+    print_text(out, b"</text>\n<text x=\"28\" y=\"142\">")?;
+    print_gap_key(out)?;
+    print_text(out, b"</text>\n")
 }
 
 // The legend, eight entries a line.
-fn print_legend(servers: u32, from: u64) {
+fn print_legend(out: &mut impl Write, servers: u32, from: u64) -> io::Result<()> {
     let mut x: u64 = 28;
     let mut y = from;
-    let mut k: u32 = 0;
-    while k < servers {
+    for k in 0..servers {
         if k == 8 {
             x = 28;
             y = add_capped(y, 28);
         }
-        print_entry(k as u64, x, y, add_capped(x, 26), add_capped(y, 14));
+        print_entry(out, k as u64, x, y, add_capped(x, 26), add_capped(y, 14))?;
         x = add_capped(x, 104);
-        k += 1;
     }
+    Ok(())
 }
 
 // The columns' lines, offsets and lengths, between the lanes' upper and lower ends.
-fn print_columns(columns: Columns, right: u64, top: u64, lower: u64) {
+fn print_columns(
+    out: &mut impl Write,
+    columns: &Columns,
+    right: u64,
+    top: u64,
+    lower: u64,
+) -> io::Result<()> {
     let to = add_capped(lower, 4);
-    print_layer(Layer::Lines(top, to), columns);
-    print_line(right, top, to);
-    print_edge(b"offset", LEFT - 12, top);
-    print_layer(Layer::Offsets(top), columns);
-    print_edge(b"bytes", LEFT - 12, add_capped(lower, 20));
-    print_layer(Layer::Lengths(add_capped(lower, 20)), columns);
+    print_layer(out, Layer::Lines(top, to), columns)?;
+    print_line(out, right, top, to)?;
+    print_edge(out, b"offset", LEFT - 12, top)?;
+    print_layer(out, Layer::Offsets(top), columns)?;
+    print_edge(out, b"bytes", LEFT - 12, add_capped(lower, 20))?;
+    print_layer(out, Layer::Lengths(add_capped(lower, 20)), columns)?;
+    Ok(())
 }
 
-pub fn draw_picture(bytes: &[u8], s: ChartInput) {
-    let columns = s.columns;
-    let summary = s.summary;
-    let width = lane_width(columns);
+pub fn draw_picture(out: &mut impl Write, bytes: &[u8], s: &ChartInput) -> io::Result<()> {
+    let width = lane_width(&s.columns);
     let right = add_capped(LEFT, width);
-    let room = label_room(widest(columns));
+    let room = label_room(widest(&s.columns));
     let top = add_capped(room, 140);
     let lanes = add_capped(top, 16);
-    let lower = lower_end(summary, lanes);
+    let lower = lower_end(&s.summary, lanes);
     let legend = add_capped(add_capped(lower, 30), room);
-    print_size(larger(add_capped(right, room), 900), add_capped(legend, 74));
-    print_style();
-    print_head(s);
-    print_columns(columns, right, top, lower);
-    print_mirrors(bytes, s, lanes, width);
-    print_legend(summary.servers, legend);
-    print_text(b"</svg>\n");
+    print_size(
+        out,
+        larger(add_capped(right, room), 900),
+        add_capped(legend, 74),
+    )?;
+    print_style(out)?;
+    print_head(out, s)?;
+    print_columns(out, &s.columns, right, top, lower)?;
+    print_mirrors(out, bytes, s, lanes, width)?;
+    print_legend(out, s.summary.servers, legend)?;
+    print_text(out, b"</svg>\n")
 }

@@ -1,99 +1,92 @@
-// Words and numbers, to standard output.
+// Words and numbers, to an output.
 #![tactic(auto)]
 
 mod cell;
 
 ghost use Rattle.std.specs.Prelude.{◌≤◌, length};
 
-use base::{DEVICE_ID_SIZE, Fault, Refusal, wide8};
+use base::{DEVICE_ID_SIZE, Fault, Refusal};
 pub use cell::{digits, print_right, print_times};
-use libc::STDOUT_FILENO;
+use std::io;
+use std::io::Write;
 
-pub fn print_text(text: &[u8]) {
-    io::write_all(STDOUT_FILENO, text);
+pub fn print_text(out: &mut impl Write, text: &[u8]) -> io::Result<()> {
+    out.write_all(text)
 }
 
 // What is between the members of a list, before member i.
-pub fn print_between(text: &[u8], i: usize) {
-    if i != 0 {
-        print_text(text);
+pub fn print_between(out: &mut impl Write, text: &[u8], i: usize) -> io::Result<()> {
+    if i == 0 {
+        return Ok(());
     }
+    print_text(out, text)
 }
 
-pub fn print_number(v: u64) {
-    io::print_decimal(STDOUT_FILENO, v);
+pub fn print_number(out: &mut impl Write, v: u64) -> io::Result<()> {
+    write!(out, "{v}")
 }
 
 // A number after its name.
-pub fn print_field(name: &[u8], v: u64) {
-    print_text(name);
-    print_number(v);
+pub fn print_field(out: &mut impl Write, name: &[u8], v: u64) -> io::Result<()> {
+    print_text(out, name)?;
+    print_number(out, v)
 }
 
 // Where the next '#' of a text is, from an offset on; its end where there is none.
 fn mark_from(text: &[u8], from: usize) -> usize
     ensures { result ≤ length text.now }
 {
-    let mut i = from;
-    while i < text.len() {
+    for i in from..text.len() {
         if text[i] == b'#' {
             return i;
         }
-        i += 1;
     }
     text.len()
 }
 
 // A text with a number in place of each '#'.
-pub fn print_fields(text: &[u8], values: &[u64]) {
-    let mut from: usize = 0;
-    let mut k: usize = 0;
-    while k < values.len() {
+pub fn print_fields(out: &mut impl Write, text: &[u8], values: &[u64]) -> io::Result<()> {
+    let mut from = 0;
+    for v in values {
         let mark = mark_from(text, from);
         if mark < from {
-            return;
+            return Ok(());
         }
-        print_field(&text[from..mark], values[k]);
+        print_field(out, &text[from..mark], *v)?;
         from = mark + 1;
-        k += 1;
     }
     if from < text.len() {
-        print_text(&text[from..]);
+        print_text(out, &text[from..])?;
     }
+    Ok(())
 }
 
-// Each byte as two digits, eight bytes at a time while there are as many.
-pub fn print_hex(bytes: &[u8]) {
-    let mut i: usize = 0;
-    while i < bytes.len() {
-        if bytes.len() - i < 8 {
-            io::print_hex(STDOUT_FILENO, wide8(bytes[i]) as u64, 2);
-            i += 1;
-        } else {
-            io::print_hex(STDOUT_FILENO, octets::be8(bytes, i), 16);
-            i += 8;
-        }
+// Each byte as two digits.
+pub fn print_hex(out: &mut impl Write, bytes: &[u8]) -> io::Result<()> {
+    for byte in bytes {
+        write!(out, "{byte:02x}")?;
     }
+    Ok(())
 }
 
 // The device id at an offset; nothing where its bytes run out.
-pub fn print_device_id(bytes: &[u8], at: usize) {
+pub fn print_device_id(out: &mut impl Write, bytes: &[u8], at: usize) -> io::Result<()> {
     if bytes.len() < at {
-        return;
+        return Ok(());
     }
     if bytes.len() - at < DEVICE_ID_SIZE {
-        return;
+        return Ok(());
     }
     let end = at + DEVICE_ID_SIZE;
-    print_hex(&bytes[at..end]);
+    print_hex(out, &bytes[at..end])
 }
 
 // A refusal, after what was asked.
-pub fn print_refused(e: Refusal) {
-    print_field(b" refused ", base::number(e) as u64);
+pub fn print_refused(out: &mut impl Write, e: Refusal) -> io::Result<()> {
+    print_field(out, b" refused ", base::number(e) as u64)
 }
 
 // What a reader found wrong, likewise.
-pub fn print_fault(e: Fault) {
-    print_refused(Refusal::Fault(e));
+pub fn print_fault(out: &mut impl Write, e: Fault) -> io::Result<()> {
+    print_refused(out, Refusal::Fault(e))
 }

@@ -1,40 +1,33 @@
 // The table.
-use base::MOST_SEGMENTS;
 use print::{print_between, print_field, print_fields, print_text};
 use segments::{Right, Segment, Segments, Table};
+use std::io;
+use std::io::Write;
 
-fn print_right(r: Right) {
+fn print_right(out: &mut impl Write, r: Right) -> io::Result<()> {
     match r {
-        Right::None => print_text(b"n"),
-        Right::Granted(s) => print_field(b"g", s.0 as u64),
-        Right::Recalled(s) => print_field(b"r", s.0 as u64),
+        Right::None => print_text(out, b"n"),
+        Right::Granted(s) => print_field(out, b"g", s.0 as u64),
+        Right::Recalled(s) => print_field(out, b"r", s.0 as u64),
     }
 }
 
-fn print_segment(s: Segment) {
-    let right = s.right;
-    let values = [s.first, s.last];
-    print_fields(b"#-#:", &values);
-    print_right(right);
+fn print_segment(out: &mut impl Write, s: Segment) -> io::Result<()> {
+    print_fields(out, b"#-#:", &[s.first, s.last])?;
+    print_right(out, s.right)
 }
 
-fn print_segments(g: Segments) {
-    let mut i: usize = 0;
-    while i < MOST_SEGMENTS {
-        if g.count <= i {
-            return;
-        }
-        print_between(b",", i);
-        print_segment(g.items[i]);
-        i += 1;
+fn print_segments(out: &mut impl Write, g: &Segments) -> io::Result<()> {
+    for (i, segment) in g.items.iter().take(g.count).enumerate() {
+        print_between(out, b",", i)?;
+        print_segment(out, *segment)?;
     }
+    Ok(())
 }
 
-pub fn print_table(t: Table) {
-    let read = t.read;
-    let rw = t.rw;
-    print_text(b"table read=");
-    print_segments(read);
-    print_text(b" rw=");
-    print_segments(rw);
+pub fn print_table(out: &mut impl Write, t: &Table) -> io::Result<()> {
+    print_text(out, b"table read=")?;
+    print_segments(out, &t.read)?;
+    print_text(out, b" rw=")?;
+    print_segments(out, &t.rw)
 }

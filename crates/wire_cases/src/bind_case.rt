@@ -3,51 +3,47 @@ use crate::arrays::id_at;
 use base::{MirrorNumber, StripeNumber};
 use binding::{Binding, Bound};
 use print::{print_field, print_fields, print_refused, print_text};
+use std::io;
+use std::io::Write;
 
 // Where the layout body is.
 const LAYOUT_AT: usize = 32;
 
 // The entry that was chosen, and the filehandle.
-fn print_entry(b: Bound) {
-    let v = b.version;
-    let f = b.filehandle;
+fn print_entry(out: &mut impl Write, b: &Bound) -> io::Result<()> {
     let values = [
         b.entry as u64,
-        v.version as u64,
-        v.minor as u64,
-        f.start as u64,
-        f.len as u64,
+        b.version.version as u64,
+        b.version.minor as u64,
+        b.filehandle.start as u64,
+        b.filehandle.len as u64,
     ];
-    print_fields(b" entry=# version=#.# filehandle=#+#", &values);
+    print_fields(out, b" entry=# version=#.# filehandle=#+#", &values)
 }
 
-fn print_names(b: Bound) {
-    let user = b.user;
-    let group = b.group;
+fn print_names(out: &mut impl Write, b: &Bound) -> io::Result<()> {
     let values = [
-        user.start as u64,
-        user.len as u64,
-        group.start as u64,
-        group.len as u64,
+        b.user.start as u64,
+        b.user.len as u64,
+        b.group.start as u64,
+        b.group.len as u64,
     ];
-    print_fields(b" user=#+# group=#+#", &values);
+    print_fields(out, b" user=#+# group=#+#", &values)
 }
 
-fn print_bound(b: Bound) {
-    let version = b.version;
-    print_entry(b);
-    if version.tight {
-        print_field(b" stateid=", b.stateid as u64);
-        return;
+fn print_bound(out: &mut impl Write, b: &Bound) -> io::Result<()> {
+    print_entry(out, b)?;
+    if b.version.tight {
+        return print_field(out, b" stateid=", b.stateid as u64);
     }
-    print_names(b);
+    print_names(out, b)
 }
 
-fn print_binding(b: Binding) {
-    print_text(b"bind");
+fn print_binding(out: &mut impl Write, b: Binding) -> io::Result<()> {
+    print_text(out, b"bind")?;
     match b {
-        Binding::Refused(e) => print_refused(e),
-        Binding::Value(v) => print_bound(v),
+        Binding::Refused(e) => print_refused(out, e),
+        Binding::Value(v) => print_bound(out, &v),
     }
 }
 
@@ -60,13 +56,13 @@ fn bind(payload: &[u8], layout: &[u8], device: &[u8]) -> Binding {
     binding::bind(layout, mirror, stripe, device, &id, supported)
 }
 
-pub fn print_bind(payload: &[u8]) {
+pub fn print_bind(out: &mut impl Write, payload: &[u8]) -> io::Result<()> {
     let size = octets::le4(payload, 28) as usize;
     let start = LAYOUT_AT;
     let end = start + size;
     if payload.len() < end {
-        return;
+        return Ok(());
     }
     let b = bind(payload, &payload[start..end], &payload[end..]);
-    print_binding(b);
+    print_binding(out, b)
 }

@@ -21,6 +21,7 @@ const LONGEST_LIST: u32 = MOST_ERRORS_IN_ALL as u32;
 // A record of statistics in a payload.
 pub(crate) const RECORD_SIZE: usize = 436;
 
+#[tactic(auto, unfolding(crate::specs::Forms::is_bind))]
 pub fn is_bind(payload: &[u8]) -> bool
     ensures { result ≡ is_bind payload.now }
 {
@@ -31,6 +32,7 @@ pub fn is_bind(payload: &[u8]) -> bool
 const LAST_LIST: usize = 8 + REPORT_HEAD_SIZE * REPORT_ENTRIES;
 
 // Where it is after so many reports.
+#[tactic(auto, unfolding(crate::specs::Forms::error_list_at))]
 pub(crate) fn error_list_at(count: u32) -> usize
     ensures { (result ≡ error_list_at count) × (result ≤ 8 + report_head_size * most_reports) }
 {
@@ -41,6 +43,7 @@ pub(crate) fn error_list_at(count: u32) -> usize
 }
 
 // Where the errors end whose list length is at an offset.
+#[tactic(auto, unfolding(crate::specs::Forms::list_end))]
 pub(crate) fn list_end(payload: &[u8], at: usize) -> usize
     requires { at ≤ 8 + report_head_size * most_reports }
     ensures { (result ≡ list_end payload.now at) × (at + 4 ≤ result) × (result < 2 ^ 40) }
@@ -49,6 +52,7 @@ pub(crate) fn list_end(payload: &[u8], at: usize) -> usize
 }
 
 // Whether the output's length and the error list's are within their limits.
+#[tactic(auto, unfolding(crate::specs::Forms::lengths_fit))]
 fn lengths_fit(payload: &[u8], longest: u32) -> bool
     ensures { result ≡ lengths_fit longest payload.now }
 {
@@ -59,6 +63,7 @@ fn lengths_fit(payload: &[u8], longest: u32) -> bool
     octets::le4(payload, at) <= LONGEST_LIST
 }
 
+#[tactic(auto, unfolding(crate::specs::Forms::is_report_write))]
 pub fn is_report_write(payload: &[u8]) -> bool
     ensures { result ≡ is_report_write payload.now }
 {
@@ -70,6 +75,7 @@ pub fn is_report_write(payload: &[u8]) -> bool
 }
 
 // Where the records end whose count is at an offset.
+#[tactic(auto, unfolding(crate::specs::Forms::records_end))]
 fn records_end(payload: &[u8], at: usize) -> usize
     requires { at < 2 ^ 40 }
     ensures { result ≡ records_end payload.now at }
@@ -81,6 +87,7 @@ fn records_end(payload: &[u8], at: usize) -> usize
     at + 4 + RECORD_SIZE * (count as usize)
 }
 
+#[tactic(auto, unfolding(crate::specs::Forms::is_return_write))]
 pub fn is_return_write(payload: &[u8]) -> bool
     ensures { result ≡ is_return_write payload.now }
 {

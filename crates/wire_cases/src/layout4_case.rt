@@ -2,26 +2,28 @@
 use crate::layout_case::print_summary;
 use layout4::{Layout4, Layout4Answer};
 use print::{print_fault, print_fields, print_text};
+use std::io;
+use std::io::Write;
 
 // What is before the body.
-fn print_frame(l: Layout4) {
-    let iomode = l.iomode;
-    let body = l.body;
-    let iomode_number = base::iomode_number(iomode);
-    let values = [l.offset, l.length, iomode_number as u64, body.len as u64];
-    print_fields(b" offset=# length=# iomode=# body=#", &values);
+fn print_frame(out: &mut impl Write, l: Layout4) -> io::Result<()> {
+    let values = [
+        l.offset,
+        l.length,
+        base::iomode_number(l.iomode) as u64,
+        l.body.len as u64,
+    ];
+    print_fields(out, b" offset=# length=# iomode=# body=#", &values)
 }
 
-pub fn print_layout4(payload: &[u8]) {
+pub fn print_layout4(out: &mut impl Write, payload: &[u8]) -> io::Result<()> {
     let got = layout4::read_layout4(payload);
-    let answer = got.answer;
-    let starts = got.starts;
-    print_text(b"layout4");
-    match answer {
-        Layout4Answer::Refused(e) => print_fault(e),
+    print_text(out, b"layout4")?;
+    match got.answer {
+        Layout4Answer::Refused(e) => print_fault(out, e),
         Layout4Answer::Value(l, s) => {
-            print_frame(l);
-            print_summary(s, starts);
+            print_frame(out, l)?;
+            print_summary(out, &s, &got.starts)
         }
     }
 }

@@ -1,19 +1,19 @@
 // A layout body.
-use base::{MOST_STARTS, wide16};
 use layout::{LayoutAnswer, Summary};
 use print::{print_between, print_fault, print_fields, print_number, print_text};
+use std::io;
+use std::io::Write;
 
-fn print_starts(starts: [u16; MOST_STARTS]) {
-    print_text(b" starts=");
-    let mut i: usize = 0;
-    while i < MOST_STARTS {
-        print_between(b",", i);
-        print_number(wide16(starts[i]) as u64);
-        i += 1;
+fn print_starts(out: &mut impl Write, starts: &[u16]) -> io::Result<()> {
+    print_text(out, b" starts=")?;
+    for (i, start) in starts.iter().enumerate() {
+        print_between(out, b",", i)?;
+        print_number(out, u64::from(*start))?;
     }
+    Ok(())
 }
 
-pub(crate) fn print_summary(s: Summary, starts: [u16; MOST_STARTS]) {
+pub(crate) fn print_summary(out: &mut impl Write, s: &Summary, starts: &[u16]) -> io::Result<()> {
     let values = [
         s.unit,
         s.mirrors as u64,
@@ -21,17 +21,15 @@ pub(crate) fn print_summary(s: Summary, starts: [u16; MOST_STARTS]) {
         s.flags as u64,
         s.hint as u64,
     ];
-    print_fields(b" unit=# mirrors=# servers=# flags=# hint=#", &values);
-    print_starts(starts);
+    print_fields(out, b" unit=# mirrors=# servers=# flags=# hint=#", &values)?;
+    print_starts(out, starts)
 }
 
-pub fn print_layout(payload: &[u8]) {
+pub fn print_layout(out: &mut impl Write, payload: &[u8]) -> io::Result<()> {
     let got = layout::read_layout(payload);
-    let answer = got.answer;
-    let starts = got.starts;
-    print_text(b"layout-body");
-    match answer {
-        LayoutAnswer::Refused(e) => print_fault(e),
-        LayoutAnswer::Value(s) => print_summary(s, starts),
+    print_text(out, b"layout-body")?;
+    match got.answer {
+        LayoutAnswer::Refused(e) => print_fault(out, e),
+        LayoutAnswer::Value(s) => print_summary(out, &s, &got.starts),
     }
 }

@@ -133,18 +133,13 @@ fn record_of(r: &[u8]) -> Statistic {
 // The records after a count; blank in the entries past it.
 pub(crate) fn records_of(tail: &[u8], count: u32) -> [Statistic; STATISTIC_ENTRIES] {
     let mut records = [NO_STATISTIC; STATISTIC_ENTRIES];
-    let mut i: usize = 0;
-    while i < STATISTIC_ENTRIES {
+    for i in 0..STATISTIC_ENTRIES.min(count as usize) {
         let at = 4 + RECORD_SIZE * i;
         let end = at + RECORD_SIZE;
-        if count as usize <= i {
-            return records;
-        }
         if tail.len() < end {
             return records;
         }
         records[i] = record_of(&tail[at..end]);
-        i += 1;
     }
     records
 }

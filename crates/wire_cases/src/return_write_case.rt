@@ -3,41 +3,58 @@ use crate::form::{LONGEST_RETURN_OUTPUT, error_list_at, list_end};
 use crate::record::records_of;
 use crate::report_write_case::{entries_of, heads_of, list_length, print_answer};
 use report::Outgoing;
+use std::io;
+use std::io::Write;
 
 // The tail of the payload begins with the statistics count.
 fn outgoing_of(payload: &[u8], tail: &[u8]) -> Outgoing {
     let count = octets::le4(payload, 4);
-    let heads = heads_of(payload, count);
     let statistic_count = octets::le4(tail, 0);
-    let statistics = records_of(tail, statistic_count);
     Outgoing {
         count,
-        heads,
+        heads: heads_of(payload, count),
         statistic_count,
-        statistics,
+        statistics: records_of(tail, statistic_count),
     }
 }
 
-fn print_output(outgoing: Outgoing, errors: usize, entries: &[u8], out: &mut [u8]) {
-    let w = report::write_return(outgoing, errors, entries, out);
-    print_answer(b"return-write", w, out);
+fn print_output(
+    out: &mut impl Write,
+    outgoing: Outgoing,
+    errors: usize,
+    entries: &[u8],
+    output: &mut [u8],
+) -> io::Result<()> {
+    let w = report::write_return(outgoing, errors, entries, output);
+    print_answer(out, b"return-write", w, output)
 }
 
-fn print_writing(payload: &[u8], outgoing: Outgoing, size: usize) {
-    let mut out = [165u8; LONGEST_RETURN_OUTPUT as usize];
-    if out.len() < size {
-        return;
+fn print_writing(
+    out: &mut impl Write,
+    payload: &[u8],
+    outgoing: Outgoing,
+    size: usize,
+) -> io::Result<()> {
+    let mut output = [165u8; LONGEST_RETURN_OUTPUT as usize];
+    if output.len() < size {
+        return Ok(());
     }
     let entries = entries_of(payload);
-    print_output(outgoing, list_length(payload), &entries, &mut out[..size]);
+    print_output(
+        out,
+        outgoing,
+        list_length(payload),
+        &entries,
+        &mut output[..size],
+    )
 }
 
-pub fn print_return_write(payload: &[u8]) {
+pub fn print_return_write(out: &mut impl Write, payload: &[u8]) -> io::Result<()> {
     let at = error_list_at(octets::le4(payload, 4));
     let end = list_end(payload, at);
     if payload.len() < end {
-        return;
+        return Ok(());
     }
     let outgoing = outgoing_of(payload, &payload[end..]);
-    print_writing(payload, outgoing, octets::le4(payload, 0) as usize);
+    print_writing(out, payload, outgoing, octets::le4(payload, 0) as usize)
 }

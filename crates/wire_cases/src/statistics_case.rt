@@ -1,43 +1,38 @@
 // The statistics of a layout return that is read.
-use base::STATISTIC_ENTRIES;
 use print::{print_fault, print_field, print_fields, print_hex, print_text};
 use report::CountAnswer;
 use statistics::{Filehandle, IoInfo, Latency, LayoutUpdate, Netaddr, Statistic, Time};
+use std::io;
+use std::io::Write;
 
-fn print_bytes(name: &[u8], bytes: &[u8]) {
-    print_text(name);
-    print_hex(bytes);
+fn print_bytes(out: &mut impl Write, name: &[u8], bytes: &[u8]) -> io::Result<()> {
+    print_text(out, name)?;
+    print_hex(out, bytes)
 }
 
 // The bytes that count; nothing where there are fewer.
-fn print_opaque(name: &[u8], bytes: &[u8], length: u32) {
+fn print_opaque(out: &mut impl Write, name: &[u8], bytes: &[u8], length: u32) -> io::Result<()> {
     let size = length as usize;
     if bytes.len() < size {
-        return;
+        return Ok(());
     }
-    print_bytes(name, &bytes[..size]);
+    print_bytes(out, name, &bytes[..size])
 }
 
-fn print_address(a: Netaddr) {
-    let netid = a.netid;
-    let text = a.text;
-    let netid_bytes = netid.bytes;
-    let text_bytes = text.bytes;
-    print_opaque(b",netid=", &netid_bytes, netid.length);
-    print_opaque(b",address=", &text_bytes, text.length);
+fn print_address(out: &mut impl Write, a: &Netaddr) -> io::Result<()> {
+    print_opaque(out, b",netid=", &a.netid.bytes, a.netid.length)?;
+    print_opaque(out, b",address=", &a.text.bytes, a.text.length)
 }
 
-fn print_filehandle(f: Filehandle) {
-    let bytes = f.bytes;
-    print_opaque(b",filehandle=", &bytes, f.length);
+fn print_filehandle(out: &mut impl Write, f: &Filehandle) -> io::Result<()> {
+    print_opaque(out, b",filehandle=", &f.bytes, f.length)
 }
 
-fn print_time(text: &[u8], t: Time) {
-    let values = [t.seconds, t.nanoseconds as u64];
-    print_fields(text, &values);
+fn print_time(out: &mut impl Write, text: &[u8], t: &Time) -> io::Result<()> {
+    print_fields(out, text, &[t.seconds, t.nanoseconds as u64])
 }
 
-fn print_latency(name: &[u8], l: Latency) {
+fn print_latency(out: &mut impl Write, name: &[u8], l: &Latency) -> io::Result<()> {
     let values = [
         l.ops_requested,
         l.bytes_requested,
@@ -45,59 +40,49 @@ fn print_latency(name: &[u8], l: Latency) {
         l.bytes_completed,
         l.bytes_not_delivered,
     ];
-    print_text(name);
-    print_fields(b"=#/#/#/#/#", &values);
-    print_time(b"/#/#", l.busy);
-    print_time(b"/#/#", l.completion);
+    print_text(out, name)?;
+    print_fields(out, b"=#/#/#/#/#", &values)?;
+    print_time(out, b"/#/#", &l.busy)?;
+    print_time(out, b"/#/#", &l.completion)
 }
 
-fn print_update(u: LayoutUpdate) {
-    print_address(u.address);
-    print_filehandle(u.filehandle);
-    print_latency(b",read-latency", u.read);
-    print_latency(b",write-latency", u.write);
-    print_time(b",duration=#/#", u.duration);
-    print_field(b",local=", u.local as u64);
+fn print_update(out: &mut impl Write, u: &LayoutUpdate) -> io::Result<()> {
+    print_address(out, &u.address)?;
+    print_filehandle(out, &u.filehandle)?;
+    print_latency(out, b",read-latency", &u.read)?;
+    print_latency(out, b",write-latency", &u.write)?;
+    print_time(out, b",duration=#/#", &u.duration)?;
+    print_field(out, b",local=", u.local as u64)
 }
 
-fn print_io_info(text: &[u8], i: IoInfo) {
-    let values = [i.count, i.bytes];
-    print_fields(text, &values);
+fn print_io_info(out: &mut impl Write, text: &[u8], i: &IoInfo) -> io::Result<()> {
+    print_fields(out, text, &[i.count, i.bytes])
 }
 
-fn print_record(s: Statistic) {
-    let values = [s.offset, s.length];
-    let stateid = s.stateid;
-    let device = s.device;
-    print_fields(b" offset=#,length=#", &values);
-    print_bytes(b",stateid=", &stateid);
-    print_io_info(b",read=#/#", s.read);
-    print_io_info(b",write=#/#", s.write);
-    print_bytes(b",device=", &device);
-    print_update(s.update);
+fn print_record(out: &mut impl Write, s: &Statistic) -> io::Result<()> {
+    print_fields(out, b" offset=#,length=#", &[s.offset, s.length])?;
+    print_bytes(out, b",stateid=", &s.stateid)?;
+    print_io_info(out, b",read=#/#", &s.read)?;
+    print_io_info(out, b",write=#/#", &s.write)?;
+    print_bytes(out, b",device=", &s.device)?;
+    print_update(out, &s.update)
 }
 
-fn print_records(records: [Statistic; STATISTIC_ENTRIES], count: u32) {
-    let mut i: usize = 0;
-    while i < STATISTIC_ENTRIES {
-        if count as usize <= i {
-            return;
-        }
-        print_record(records[i]);
-        i += 1;
+fn print_records(out: &mut impl Write, records: &[Statistic], count: u32) -> io::Result<()> {
+    for record in records.iter().take(count as usize) {
+        print_record(out, record)?;
     }
+    Ok(())
 }
 
 // Where the reports are accepted, so are the statistics: a refusal here would show in the line.
-pub(crate) fn print_statistics(payload: &[u8]) {
+pub(crate) fn print_statistics(out: &mut impl Write, payload: &[u8]) -> io::Result<()> {
     let got = report::read_statistics(payload);
-    let answer = got.answer;
-    let records = got.statistics;
-    match answer {
-        CountAnswer::Refused(e) => print_fault(e),
+    match got.answer {
+        CountAnswer::Refused(e) => print_fault(out, e),
         CountAnswer::Count(count) => {
-            print_field(b" statistics=", count as u64);
-            print_records(records, count);
+            print_field(out, b" statistics=", count as u64)?;
+            print_records(out, &got.statistics, count)
         }
     }
 }
