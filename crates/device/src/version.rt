@@ -23,6 +23,7 @@ pub(crate) enum ReadVersion {
     Refused(Fault),
 }
 
+#[tactic(auto, unfolding(crate::specs::Versions::version_fits))]
 fn version_fits(v: Version) -> bool
     ensures { result ≡ version_fits v }
 {

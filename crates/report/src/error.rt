@@ -16,6 +16,7 @@ pub enum ReadError {
     Refused(Fault),
 }
 
+#[tactic(auto, unfolding(crate::specs::Reports::error_fits))]
 pub fn error_fits(status: u32, operation: u32) -> bool
     ensures { result ≡ error_fits status operation }
 {

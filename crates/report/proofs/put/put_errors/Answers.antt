@@ -13,5 +13,5 @@ returns c =
     let e : a.from + 24 * a.n - a.from ≡ 24 * a.n = omega arith in
     c.put_bytes.ensures
     ∙ errors_stored a.out.now a.at a.n errors a.from _
-    (λ i. omega (arith, c.shared_slice_known-1.given i)) c.requires.0
+    (λ i. omega (arith, c.type_inv.errors i)) c.requires.0
     c.requires.1 (ap (λ (m : ℕ). take m (drop a.from errors)) e)
