@@ -1,23 +1,33 @@
 -- Laws of records looked through from the front: the next one and those after it, one that stands for no segment, none left.
 use Prim.Native.Nat.{ℕ, ◌+◌, ◌≤◌, ◌<◌}
 use mathlib.Core.Path.{◌≡◌, refl, sym, ap, ◌∙◌}
-use mathlib.Core.Bool.{Bool, true, false, false≢true}
+use mathlib.Core.Bool.{Bool, true, false}
+use Rattle.std.specs.Prelude.{None, Some}
 use mathlib.Core.List.{List, [], ◌∷◌, ◌++◌, append-nil}
 use native.Mathlib.Numerals.{add-one}
+use native.Mathlib.Omega.{arith}
 use lib.ListN.{length, take, drop, get_or, set, drop_of_length-le}
 use lib.Dec.{eqb}
 use lib.Seq.{append_snoc, drop-cons, take_all, take-suc-set}
 use Rattle.base.specs.Answer.{Answer, accepted, refused, given, pick}
-use Rattle.segments.specs.declared.Right.TheVariants.{None, Granted, Recalled}
-use Rattle.segments.specs.Segments.{empty_table}
+use Rattle.segments.specs.declared.Right.TheVariants as right
 use Rattle.segments.specs.declared.Segment.{Segment}
 use Rattle.segments.specs.declared.Segments.{Segments}
 use Rattle.segments.specs.declared.Table.{Table}
 use Rattle.abi_table.specs.declared.types.SegmentRecord.{SegmentRecord}
-use Rattle.abi_table.specs.declared.from.Decoded.{Decoded}
-use Rattle.abi_table.specs.Answers.{decoded_of}
+use Rattle.abi_table.specs.Answers.{option_of}
 use Rattle.abi_table.specs.declared.types.TableRecord.{TableRecord}
 use Rattle.abi_table.specs.TableRecords.{items_in, right_of_numbers, segment_in, segments_of_records, table_in}
+
+-- ---- the option of an answer, read backwards
+
+pub was_refused : {A : Type 0} (a : Answer A) → option_of a ≡ None → (n : ℕ) × (a ≡ refused n)
+was_refused (accepted x) p = let e : ◌≡◌ {A = ℕ} 0 1 = cc in absurd (omega arith)
+was_refused (refused n) p = (n, refl)
+
+pub was_accepted : {A : Type 0} (a : Answer A) (x : A) → option_of a ≡ Some x → a ≡ accepted x
+was_accepted (accepted y) x p = let e : y ≡ x = cc in rw e
+was_accepted (refused n) x p = let e : ◌≡◌ {A = ℕ} 0 1 = cc in absurd (omega arith)
 
 -- ---- the segments of records
 
@@ -61,21 +71,21 @@ made_all l made i h k m = m ∙ rw (drop_of_length-le l h, take_all i made k, ap
 -- ---- both iomodes
 
 -- a refused answer in front, or after
-pub none_left : (r : TableRecord) (n : ℕ) → items_in r.read ≡ refused n → record { valid = false; table = empty_table } ≡ decoded_of (table_in r)
-unfolding table_in segments_of_records decoded_of given
+pub none_left : (r : TableRecord) (n : ℕ) → items_in r.read ≡ refused n → None ≡ option_of (table_in r)
+unfolding table_in segments_of_records given
 none_left r n e = rw e
 
-pub none_right : (r : TableRecord) (n : ℕ) → items_in r.rw ≡ refused n → record { valid = false; table = empty_table } ≡ decoded_of (table_in r)
-unfolding table_in segments_of_records decoded_of given
+pub none_right : (r : TableRecord) (n : ℕ) → items_in r.rw ≡ refused n → None ≡ option_of (table_in r)
+unfolding table_in segments_of_records given
 none_right r n e = go (items_in r.read)
   where
-    go : (a : Answer (List Segment)) → record { valid = false; table = empty_table } ≡ decoded_of (given (given a λ xs. accepted (record { items = xs; count = r.read_count })) λ (read : Segments). given (given (items_in r.rw) λ xs. accepted (record { items = xs; count = r.rw_count })) λ (rw : Segments). accepted (record { read = read; rw = rw }))
+    go : (a : Answer (List Segment)) → None ≡ option_of {A = Table} (given (given a λ xs. accepted (record { items = xs; count = r.read_count })) λ (read : Segments). given (given (items_in r.rw) λ xs. accepted (record { items = xs; count = r.rw_count })) λ (rw : Segments). accepted (record { read = read; rw = rw }))
     go (accepted xs) = rw e
     go (refused m) = refl
 
 pub both_all : (r : TableRecord) (reads rws : List Segment) → items_in r.read ≡ accepted reads → items_in r.rw ≡ accepted rws
-    → record { valid = true; table = record { read = record { items = reads; count = r.read_count }; rw = record { items = rws; count = r.rw_count } } } ≡ decoded_of (table_in r)
-unfolding table_in segments_of_records decoded_of given
+    → Some (record { read = record { items = reads; count = r.read_count }; rw = record { items = rws; count = r.rw_count } }) ≡ option_of (table_in r)
+unfolding table_in segments_of_records given
 both_all r reads rws e f = rw (e, f)
 
 -- ---- what was taken, read backwards
@@ -98,8 +108,8 @@ only_pick false a b h k = k
 only_right : (kind slot : ℕ) → Only20 (right_of_numbers kind slot)
 unfolding right_of_numbers
 only_right kind slot =
-    only_pick (eqb kind 0) _ _ (only_pick (eqb slot 0) (accepted None) (refused 20) tt refl)
-    (only_pick (eqb kind 1) (accepted (Granted record { 0 = slot })) _ tt (only_pick (eqb kind 2) (accepted (Recalled record { 0 = slot })) (refused 20) tt refl))
+    only_pick (eqb kind 0) _ _ (only_pick (eqb slot 0) (accepted right.None) (refused 20) tt refl)
+    (only_pick (eqb kind 1) (accepted (right.Granted record { 0 = slot })) _ tt (only_pick (eqb kind 2) (accepted (right.Recalled record { 0 = slot })) (refused 20) tt refl))
 
 only_items : (l : List SegmentRecord) → Only20 (items_in l)
 unfolding items_in segment_in
@@ -117,19 +127,12 @@ only_table r =
 pub no_table_is_20 : (r : TableRecord) (n : ℕ) → table_in r ≡ refused n → n ≡ 20
 no_table_is_20 r n e = let h : Only20 {A = Table} (refused n) = rw e at (only_table r) in h
 
-unfit_is : (a : Answer Table) (x : Decoded) → Only20 a → x ≡ decoded_of a → x.valid ≡ false → a ≡ refused 20
-unfolding decoded_of
-unfit_is (accepted t) x o p f = absurd (false≢true (sym f ∙ ap (λ (y : Decoded). y.valid) p))
-unfit_is (refused n) x o p f = ap refused o
+unfit_is : (a : Answer Table) → Only20 a → None ≡ option_of a → a ≡ refused 20
+unfit_is a o p = let w = was_refused a (sym p) in let k = rw w.1 at o in w.1 ∙ ap refused k
 
-fit_is : (a : Answer Table) (x : Decoded) → x ≡ decoded_of a → x.valid ≡ true → a ≡ accepted x.table
-unfolding decoded_of
-fit_is (accepted t) x p f = ap (λ (y : Decoded). accepted y.table) (sym p)
-fit_is (refused n) x p f = absurd (false≢true (sym (ap (λ (y : Decoded). y.valid) p) ∙ f))
+module _ (r : TableRecord) where
+  pub no_table_in : None ≡ option_of (table_in r) → table_in r ≡ refused 20
+  no_table_in p = unfit_is (table_in r) (only_table r) p
 
-module _ (r : TableRecord) (x : Decoded) (p : x ≡ decoded_of (table_in r)) where
-  pub no_table_in : x.valid ≡ false → table_in r ≡ refused 20
-  no_table_in f = unfit_is (table_in r) x (only_table r) p f
-
-  pub table_in_lem : x.valid ≡ true → table_in r ≡ accepted x.table
-  table_in_lem f = fit_is (table_in r) x p f
+  pub table_in_lem : (t : Table) → Some t ≡ option_of (table_in r) → table_in r ≡ accepted t
+  table_in_lem t p = was_accepted (table_in r) t (sym p)

@@ -1,75 +1,39 @@
 // The table that a record stands for.
-ghost use Rattle.std.specs.Prelude.{◌≡◌, false};
-ghost use Rattle.segments.specs.Segments.{empty_table};
-ghost use Rattle.abi_table.specs.Answers.{answer_of_right, answer_of_segment, decoded_of};
+ghost use Rattle.std.specs.Prelude.{◌≡◌};
+ghost use Rattle.abi_table.specs.Answers.{option_of};
 ghost use Rattle.abi_table.specs.TableRecords.{right_of_numbers, segment_in, table_in};
 
 use crate::types::{SegmentRecord, TableRecord};
 use base::{MOST_SEGMENTS, SlotNumber};
 use segments::{BLANK, Right, Segment, Segments, Table};
 
-#[derive(Clone, Copy)]
-pub enum ReadRight {
-    Value(Right),
-    Unknown,
-}
-
-#[derive(Clone, Copy)]
-pub enum ReadSegment {
-    Value(Segment),
-    Unknown,
-}
-
-// The empty table where the record stands for none.
-#[derive(Clone, Copy)]
-pub struct Decoded {
-    pub table: Table,
-    pub valid: bool,
-}
-
-fn right_of(kind: u32, slot: u32) -> ReadRight
-    ensures { answer_of_right result ≡ right_of_numbers kind slot }
+#[tactic(auto, unfolding(crate::specs::TableRecords::right_of_numbers, base::specs::Answer::pick))]
+fn right_of(kind: u32, slot: u32) -> Option<Right>
+    ensures { result ≡ option_of (right_of_numbers kind slot) }
 {
-    if kind == 0 {
-        if slot == 0 {
-            return ReadRight::Value(Right::None);
-        }
-        return ReadRight::Unknown;
+    match kind {
+        0 if slot == 0 => Some(Right::None),
+        1 => Some(Right::Granted(SlotNumber(slot))),
+        2 => Some(Right::Recalled(SlotNumber(slot))),
+        _ => None,
     }
-    if kind == 1 {
-        return ReadRight::Value(Right::Granted(SlotNumber(slot)));
-    }
-    if kind == 2 {
-        return ReadRight::Value(Right::Recalled(SlotNumber(slot)));
-    }
-    ReadRight::Unknown
 }
 
-fn segment_of(s: SegmentRecord) -> ReadSegment
-    ensures { answer_of_segment result ≡ segment_in s }
+#[tactic(auto, unfolding(crate::specs::TableRecords::segment_in, base::specs::Answer::given))]
+fn segment_of(s: SegmentRecord) -> Option<Segment>
+    ensures { result ≡ option_of (segment_in s) }
 {
-    let r = right_of(s.kind, s.slot);
-    let ReadRight::Value(right) = r else {
-        return ReadSegment::Unknown;
-    };
-    ReadSegment::Value(Segment {
+    let right = right_of(s.kind, s.slot)?;
+    Some(Segment {
         first: s.first,
         last: s.last,
         right,
     })
 }
 
-fn no_table() -> Decoded
-    ensures { result ≡ record { valid = false; table = empty_table } }
-{
-    Decoded {
-        valid: false,
-        table: segments::empty_table(),
-    }
-}
-
-pub fn table_of(r: TableRecord) -> Decoded
-    ensures { result ≡ decoded_of (table_in r) }
+// None where the record stands for no table.
+pub fn table_of(r: TableRecord) -> Option<Table>
+    ensures { result ≡ option_of (table_in r) }
 {
     let mut read = Segments {
         items: [BLANK; MOST_SEGMENTS],
@@ -79,22 +43,11 @@ pub fn table_of(r: TableRecord) -> Decoded
         items: [BLANK; MOST_SEGMENTS],
         count: r.rw_count as usize,
     };
-    let mut i: usize = 0;
-    while i < MOST_SEGMENTS {
+    for i in 0..MOST_SEGMENTS {
         let a = r.read[i];
-        let x = segment_of(a);
-        let ReadSegment::Value(s) = x else {
-            return no_table();
-        };
-        read.items[i] = s;
+        read.items[i] = segment_of(a)?;
         let b = r.rw[i];
-        let y = segment_of(b);
-        let ReadSegment::Value(w) = y else {
-            return no_table();
-        };
-        rw.items[i] = w;
-        i += 1;
+        rw.items[i] = segment_of(b)?;
     }
-    let table = Table { read, rw };
-    Decoded { table, valid: true }
+    Some(Table { read, rw })
 }

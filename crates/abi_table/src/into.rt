@@ -9,13 +9,11 @@ use segments::{Segment, Table};
 fn segment_record(s: Segment) -> SegmentRecord
     ensures { result ≡ segment_record s }
 {
-    let right = s.right;
-    let slot = segments::slot_of(right);
     SegmentRecord {
         first: s.first,
         last: s.last,
-        kind: segments::kind_of(right),
-        slot: slot.0,
+        kind: segments::kind_of(s.right),
+        slot: segments::slot_of(s.right).0,
     }
 }
 
@@ -30,15 +28,11 @@ pub fn record_of(t: Table) -> TableRecord
         read_count: g.count as u64,
         rw_count: h.count as u64,
     };
-    let mut i: usize = 0;
-    while i < MOST_SEGMENTS {
+    for i in 0..MOST_SEGMENTS {
         let a = g.items[i];
-        let x = segment_record(a);
-        r.read[i] = x;
+        r.read[i] = segment_record(a);
         let b = h.items[i];
-        let y = segment_record(b);
-        r.rw[i] = y;
-        i += 1;
+        r.rw[i] = segment_record(b);
     }
     r
 }

@@ -5,6 +5,6 @@ mod from;
 mod into;
 mod types;
 
-pub use from::{Decoded, table_of};
+pub use from::table_of;
 pub use into::record_of;
 pub use types::{SegmentRecord, TableRecord};

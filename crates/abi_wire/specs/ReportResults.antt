@@ -4,7 +4,8 @@ use Rattle.base.specs.Limits.{most_reports}
 use Rattle.base.specs.Answer.{Answer, accepted, refused, given}
 use Rattle.xdr.specs.Parsed.{Parsed, ok, fault}
 use Rattle.report.specs.Reports.{Report}
-use Rattle.report.specs.Answers.{answer_of_count, blank_head, heads_of, offsets_of}
+use Rattle.base.specs.Results.{answer_of}
+use Rattle.report.specs.Answers.{blank_head, heads_of, offsets_of}
 use Rattle.report.specs.declared.ErrorItem.{ErrorItem}
 use Rattle.report.specs.declared.ReportHead.{ReportHead}
 use Rattle.report.specs.declared.body.ReportsRead.{ReportsRead}
@@ -24,7 +25,7 @@ arrays_in a = given a λ rs. accepted (record { count = length rs; heads = heads
 -- of what the reader answers, whatever is beside a refusal
 abbrev pub answer_of_reports : ReportsRead → Answer ReportArrays
 answer_of_reports x =
-    given (answer_of_count x.answer) λ n. accepted (record { count = n; heads = x.heads; offsets = x.errors_at })
+    given (answer_of x.answer) λ n. accepted (record { count = n; heads = x.heads; offsets = x.errors_at })
 
 unfoldable pub reports_result : Answer ReportArrays → ReportsResult
 reports_result (accepted a) = record { refusal = 0; count = a.count; heads = a.heads; errors_at = a.offsets }

@@ -4,7 +4,8 @@ use Rattle.base.specs.Limits.{most_statistics}
 use Rattle.base.specs.Answer.{Answer, accepted, refused, given}
 use Rattle.statistics.specs.Statistics.{blank_statistic}
 use Rattle.statistics.specs.declared.Statistic.{Statistic}
-use Rattle.report.specs.Answers.{answer_of_count, statistic_entries}
+use Rattle.base.specs.Results.{answer_of}
+use Rattle.report.specs.Answers.{statistic_entries}
 use Rattle.report.specs.declared.body.StatisticsRead.{StatisticsRead}
 use Rattle.abi_wire.specs.declared.statistics_results.StatisticsResult.{StatisticsResult}
 
@@ -19,7 +20,7 @@ statistic_array_in a = given a λ rs. accepted (record { count = length rs; entr
 
 -- of what the reader answers, whatever is beside a refusal
 abbrev pub answer_of_statistics : StatisticsRead → Answer StatisticArray
-answer_of_statistics x = given (answer_of_count x.answer) λ n. accepted (record { count = n; entries = x.statistics })
+answer_of_statistics x = given (answer_of x.answer) λ n. accepted (record { count = n; entries = x.statistics })
 
 unfoldable pub statistics_result : Answer StatisticArray → StatisticsResult
 statistics_result (accepted a) = record { refusal = 0; count = a.count; statistics = a.entries }

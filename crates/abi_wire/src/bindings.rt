@@ -1,11 +1,12 @@
 // What a binding answers: the version entry chosen, and where in the layout body its filehandle and credentials are.
 ghost use Rattle.std.specs.Prelude.{◌≡◌};
-ghost use Rattle.binding.specs.Answers.{answer_of_binding};
+ghost use Rattle.base.specs.Results.{answered};
 ghost use Rattle.abi_wire.specs.BindResults.{bind_result};
 
 use crate::devices::{NO_VERSION, VersionRecord, version_record};
 use crate::layouts::{NO_PART, PartRecord, part_record};
-use binding::Binding;
+use base::Refusal;
+use binding::Bound;
 
 // Offsets in the layout body. Tightly coupled, user and group are not used and 0; else the stateid is.
 #[repr(C)]
@@ -20,12 +21,13 @@ pub struct BindResult {
     pub group: PartRecord,
 }
 
-pub fn bind_result(b: Binding) -> BindResult
-    ensures { result ≡ bind_result (answer_of_binding b) }
+#[tactic(auto, unfolding(crate::specs::BindResults::bind_result))]
+pub fn bind_result(b: Result<Bound, Refusal>) -> BindResult
+    ensures { result ≡ bind_result (answered b) }
 {
     match b {
-        Binding::Refused(e) => BindResult {
-            refusal: base::number(e),
+        Err(e) => BindResult {
+            refusal: u32::from(e),
             entry: 0,
             version: NO_VERSION,
             filehandle: NO_PART,
@@ -33,24 +35,14 @@ pub fn bind_result(b: Binding) -> BindResult
             user: NO_PART,
             group: NO_PART,
         },
-        Binding::Value(x) => {
-            let v = x.version;
-            let f = x.filehandle;
-            let u = x.user;
-            let g = x.group;
-            let version = version_record(v);
-            let filehandle = part_record(f);
-            let user = part_record(u);
-            let group = part_record(g);
-            BindResult {
-                refusal: 0,
-                entry: x.entry,
-                version,
-                filehandle,
-                stateid: x.stateid,
-                user,
-                group,
-            }
-        }
+        Ok(x) => BindResult {
+            refusal: 0,
+            entry: x.entry,
+            version: version_record(x.version),
+            filehandle: part_record(x.filehandle),
+            stateid: x.stateid,
+            user: part_record(x.user),
+            group: part_record(x.group),
+        },
     }
 }

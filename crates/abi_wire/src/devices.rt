@@ -1,12 +1,12 @@
 // What was read of a device body: its addresses, each with its netid's class as a number, and its version entries.
 ghost use Rattle.std.specs.Prelude.{◌≡◌, map};
 ghost use Rattle.device.specs.Answers.{answer_of_device};
-ghost use Rattle.abi_wire.specs.DeviceResults.{address_record, class_number, device_result, tight_number};
+ghost use Rattle.abi_wire.specs.DeviceResults.{address_record, class_number, device_result};
 ghost use Rattle.abi_wire.specs.DeviceResults.{version_record};
 
 use crate::layouts::{PartRecord, part_record};
 use base::{ADDRESS_ENTRIES, VERSION_ENTRIES};
-use device::{Address, DeviceAnswer, DeviceRead, NetidClass, Version};
+use device::{Address, DeviceRead, NetidClass, Version};
 
 // The class of the netid is 0 for other, 1 tcp, 2 tcp6, 3 udp, 4 udp6, 5 rdma, 6 rdma6.
 #[repr(C)]
@@ -67,22 +67,10 @@ fn class_number(c: NetidClass) -> u32
 fn address_record(a: Address) -> AddressRecord
     ensures { result ≡ address_record a }
 {
-    let class = a.class;
-    let part = a.text;
-    let text = part_record(part);
     AddressRecord {
-        class: class_number(class),
-        text,
+        class: class_number(a.class),
+        text: part_record(a.text),
     }
-}
-
-fn tight_number(tight: bool) -> u32
-    ensures { result ≡ tight_number tight }
-{
-    if tight {
-        return 1;
-    }
-    0
 }
 
 pub(crate) fn version_record(v: Version) -> VersionRecord
@@ -93,7 +81,7 @@ pub(crate) fn version_record(v: Version) -> VersionRecord
         minor: v.minor,
         rsize: v.rsize,
         wsize: v.wsize,
-        tight: tight_number(v.tight),
+        tight: u32::from(v.tight),
     }
 }
 
@@ -101,11 +89,9 @@ fn address_records(items: [Address; ADDRESS_ENTRIES]) -> [AddressRecord; ADDRESS
     ensures { result ≡ map address_record items }
 {
     let mut made = [NO_ADDRESS; ADDRESS_ENTRIES];
-    let mut i: usize = 0;
-    while i < ADDRESS_ENTRIES {
+    for i in 0..ADDRESS_ENTRIES {
         let x = items[i];
         made[i] = address_record(x);
-        i += 1;
     }
     made
 }
@@ -114,36 +100,34 @@ fn version_records(items: [Version; VERSION_ENTRIES]) -> [VersionRecord; VERSION
     ensures { result ≡ map version_record items }
 {
     let mut made = [NO_VERSION; VERSION_ENTRIES];
-    let mut i: usize = 0;
-    while i < VERSION_ENTRIES {
+    for i in 0..VERSION_ENTRIES {
         let x = items[i];
         made[i] = version_record(x);
-        i += 1;
     }
     made
 }
 
+#[tactic(auto, unfolding(crate::specs::DeviceResults::device_result))]
 pub fn device_result(d: DeviceRead) -> DeviceResult
     ensures { result ≡ device_result (answer_of_device d) }
 {
-    let a = d.answer;
-    match a {
-        DeviceAnswer::Refused(e) => DeviceResult {
-            refusal: base::fault_number(e),
+    match d.answer {
+        Err(e) => DeviceResult {
+            refusal: u32::from(e),
             address_count: 0,
             version_count: 0,
             addresses: [NO_ADDRESS; ADDRESS_ENTRIES],
             versions: [NO_VERSION; VERSION_ENTRIES],
         },
-        DeviceAnswer::Counts(m, n) => {
+        Ok(n) => {
             let read = d.addresses;
             let entries = d.versions;
             let addresses = address_records(read);
             let versions = version_records(entries);
             DeviceResult {
                 refusal: 0,
-                address_count: m,
-                version_count: n,
+                address_count: n.addresses,
+                version_count: n.versions,
                 addresses,
                 versions,
             }

@@ -1,9 +1,10 @@
 // One error of a report, read.
 ghost use Rattle.std.specs.Prelude.{◌≡◌};
-ghost use Rattle.report.specs.Answers.{parsed_of_error};
+ghost use Rattle.xdr.specs.Answers.{parsed_of};
 ghost use Rattle.abi_wire.specs.ReportResults.{error_result};
 
-use report::ReadError;
+use report::ErrorItem;
+use xdr::Read;
 
 // The 16 bytes of the device id are at the offset `device`.
 #[repr(C)]
@@ -15,17 +16,18 @@ pub struct ErrorResult {
     pub operation: u32,
 }
 
-pub fn error_result(x: ReadError) -> ErrorResult
-    ensures { result ≡ error_result (parsed_of_error x) }
+#[tactic(auto, unfolding(crate::specs::ReportResults::error_result))]
+pub fn error_result(x: Read<ErrorItem>) -> ErrorResult
+    ensures { result ≡ error_result (parsed_of x) }
 {
     match x {
-        ReadError::Refused(e) => ErrorResult {
-            refusal: base::fault_number(e),
+        Err(e) => ErrorResult {
+            refusal: u32::from(e),
             device: 0,
             status: 0,
             operation: 0,
         },
-        ReadError::Value(i, _) => ErrorResult {
+        Ok((i, _)) => ErrorResult {
             refusal: 0,
             device: i.device,
             status: i.status,

@@ -5,8 +5,8 @@ ghost use Rattle.layout4.specs.Answers.{answer_of_layout4};
 ghost use Rattle.abi_wire.specs.LayoutResults.{layout4_result, layout_result, part_record, summary_record};
 
 use base::MOST_STARTS;
-use layout::{LayoutAnswer, LayoutRead, Summary};
-use layout4::{Layout4Answer, Layout4Read};
+use layout::{LayoutRead, Summary};
+use layout4::Layout4Read;
 use xdr::Part;
 
 #[repr(C)]
@@ -79,35 +79,34 @@ fn summary_record(s: Summary) -> SummaryRecord
     }
 }
 
+#[tactic(auto, unfolding(crate::specs::LayoutResults::layout_result))]
 pub fn layout_result(l: LayoutRead) -> LayoutResult
     ensures { result ≡ layout_result (answer_of_layout l.answer l.starts) }
 {
-    let a = l.answer;
-    match a {
-        LayoutAnswer::Refused(e) => LayoutResult {
-            refusal: base::fault_number(e),
+    match l.answer {
+        Err(e) => LayoutResult {
+            refusal: u32::from(e),
             summary: NO_SUMMARY,
             starts: [0u16; MOST_STARTS],
         },
-        LayoutAnswer::Value(s) => {
-            let summary = summary_record(s);
+        Ok(s) => {
             let starts = l.starts;
             LayoutResult {
                 refusal: 0,
-                summary,
+                summary: summary_record(s),
                 starts,
             }
         }
     }
 }
 
+#[tactic(auto, unfolding(crate::specs::LayoutResults::layout4_result))]
 pub fn layout4_result(l: Layout4Read) -> Layout4Result
     ensures { result ≡ layout4_result (answer_of_layout4 l.answer l.starts) }
 {
-    let a = l.answer;
-    match a {
-        Layout4Answer::Refused(e) => Layout4Result {
-            refusal: base::fault_number(e),
+    match l.answer {
+        Err(e) => Layout4Result {
+            refusal: u32::from(e),
             iomode: 0,
             offset: 0,
             length: 0,
@@ -116,20 +115,16 @@ pub fn layout4_result(l: Layout4Read) -> Layout4Result
             summary: NO_SUMMARY,
             starts: [0u16; MOST_STARTS],
         },
-        Layout4Answer::Value(f, s) => {
-            let iomode = f.iomode;
-            let part = f.body;
-            let body = part_record(part);
-            let summary = summary_record(s);
+        Ok((f, s)) => {
             let starts = l.starts;
             Layout4Result {
                 refusal: 0,
-                iomode: base::iomode_number(iomode),
+                iomode: u32::from(f.iomode),
                 offset: f.offset,
                 length: f.length,
                 last: f.last,
-                body,
-                summary,
+                body: part_record(f.body),
+                summary: summary_record(s),
                 starts,
             }
         }

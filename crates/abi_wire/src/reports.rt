@@ -3,7 +3,7 @@ ghost use Rattle.std.specs.Prelude.{◌≡◌};
 ghost use Rattle.abi_wire.specs.ReportResults.{answer_of_reports, reports_result};
 
 use base::{REPORT_ENTRIES, STATEID_SIZE};
-use report::{CountAnswer, ReportHead, ReportsRead};
+use report::{ReportHead, ReportsRead};
 
 // The first error of each report is at its offset in errors_at.
 #[repr(C)]
@@ -22,20 +22,20 @@ const NO_HEAD: ReportHead = ReportHead {
     errors: 0,
 };
 
+#[tactic(auto, unfolding(crate::specs::ReportResults::reports_result, base::specs::Answer::given))]
 pub fn reports_result(x: ReportsRead) -> ReportsResult
     ensures { result ≡ reports_result (answer_of_reports x) }
 {
     let heads = x.heads;
     let errors_at = x.errors_at;
-    let a = x.answer;
-    match a {
-        CountAnswer::Refused(e) => ReportsResult {
-            refusal: base::fault_number(e),
+    match x.answer {
+        Err(e) => ReportsResult {
+            refusal: u32::from(e),
             count: 0,
             heads: [NO_HEAD; REPORT_ENTRIES],
             errors_at: [0usize; REPORT_ENTRIES],
         },
-        CountAnswer::Count(n) => ReportsResult {
+        Ok(n) => ReportsResult {
             refusal: 0,
             count: n,
             heads,

@@ -3,7 +3,7 @@ ghost use Rattle.std.specs.Prelude.{◌≡◌};
 ghost use Rattle.abi_wire.specs.StatisticsResults.{answer_of_statistics, statistics_result};
 
 use base::STATISTIC_ENTRIES;
-use report::{CountAnswer, StatisticsRead};
+use report::StatisticsRead;
 use statistics::{NO_STATISTIC, Statistic};
 
 #[repr(C)]
@@ -14,18 +14,18 @@ pub struct StatisticsResult {
     pub statistics: [Statistic; STATISTIC_ENTRIES],
 }
 
+#[tactic(auto, unfolding(crate::specs::StatisticsResults::statistics_result, base::specs::Answer::given))]
 pub fn statistics_result(x: StatisticsRead) -> StatisticsResult
     ensures { result ≡ statistics_result (answer_of_statistics x) }
 {
     let statistics = x.statistics;
-    let a = x.answer;
-    match a {
-        CountAnswer::Refused(e) => StatisticsResult {
-            refusal: base::fault_number(e),
+    match x.answer {
+        Err(e) => StatisticsResult {
+            refusal: u32::from(e),
             count: 0,
             statistics: [NO_STATISTIC; STATISTIC_ENTRIES],
         },
-        CountAnswer::Count(n) => StatisticsResult {
+        Ok(n) => StatisticsResult {
             refusal: 0,
             count: n,
             statistics,

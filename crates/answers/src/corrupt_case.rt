@@ -1,7 +1,6 @@
 // The cases that corrupt the table and the store, and bring them back.
 use crate::state::{State, start};
 use base::{MOST_SEGMENTS, SlotNumber};
-use print::print_text;
 use segments::{Right, Segment, Segments, Table};
 use std::io;
 use std::io::Write;
@@ -16,7 +15,7 @@ pub(crate) fn set_byte(out: &mut impl Write, payload: &[u8], store: &mut [u8]) -
         return Ok(());
     }
     store[index] = payload[4];
-    print_text(out, b"set-byte done")
+    write!(out, "set-byte done")
 }
 
 fn right_of(right: u32, slot: u32) -> Right {
@@ -74,7 +73,7 @@ pub(crate) fn set_segment(out: &mut impl Write, payload: &[u8], state: State) ->
     let iomode = octets::le4(payload, 0);
     let index = octets::le4(payload, 4) as usize;
     let table = with_segment(state.table, iomode, index, segment_of(payload));
-    print_text(out, b"set-segment done")?;
+    write!(out, "set-segment done")?;
     Ok(State {
         table,
         borrowed: state.borrowed,
@@ -83,7 +82,7 @@ pub(crate) fn set_segment(out: &mut impl Write, payload: &[u8], state: State) ->
 
 pub(crate) fn reset(out: &mut impl Write, store: &mut [u8]) -> io::Result<State> {
     store.fill(0);
-    print_text(out, b"reset done")?;
+    write!(out, "reset done")?;
     Ok(start())
 }
 
@@ -92,7 +91,7 @@ pub(crate) fn set_borrowed(
     payload: &[u8],
     state: State,
 ) -> io::Result<State> {
-    print_text(out, b"lend done")?;
+    write!(out, "lend done")?;
     Ok(State {
         table: state.table,
         borrowed: octets::le4(payload, 0) as usize,

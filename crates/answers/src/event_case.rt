@@ -1,24 +1,25 @@
 // The four events. Each borrows the first bytes of the store.
 use crate::state::State;
-use events::{Event, Numbers, Verdict};
-use print::{print_refused, print_text};
+use base::Refusal;
+use events::{Event, Numbers};
+use print::Refused;
 use std::io;
 use std::io::Write;
 
-fn print_name(out: &mut impl Write, kind: u32) -> io::Result<()> {
+fn name_of(kind: u32) -> &'static str {
     match kind {
-        1 => print_text(out, b"grant"),
-        4 => print_text(out, b"recall"),
-        5 => print_text(out, b"revoke"),
-        _ => print_text(out, b"return"),
+        1 => "grant",
+        4 => "recall",
+        5 => "revoke",
+        _ => "return",
     }
 }
 
-fn print_verdict(out: &mut impl Write, kind: u32, v: Verdict) -> io::Result<()> {
-    print_name(out, kind)?;
+fn print_verdict(out: &mut impl Write, kind: u32, v: Result<(), Refusal>) -> io::Result<()> {
+    let name = name_of(kind);
     match v {
-        Verdict::Accepted => print_text(out, b" accepted"),
-        Verdict::Refused(e) => print_refused(out, e),
+        Ok(()) => write!(out, "{name} accepted"),
+        Err(e) => write!(out, "{name}{}", Refused(e)),
     }
 }
 
@@ -51,12 +52,8 @@ pub(crate) fn take_event(
     if store.len() < borrowed {
         return Ok(state);
     }
-    let o = events::apply(
-        state.table,
-        &mut store[..borrowed],
-        event_of(kind, payload),
-        payload,
-    );
+    let event = event_of(kind, payload);
+    let o = events::apply(state.table, &mut store[..borrowed], event, payload);
     print_verdict(out, kind, o.verdict)?;
     Ok(State {
         table: o.table,

@@ -9,7 +9,6 @@ mod state;
 
 use base::STORE_SIZE;
 use case::Case;
-use print::{print_field, print_text};
 use state::State;
 use std::io;
 use std::io::{BufRead, BufWriter, Write};
@@ -71,17 +70,13 @@ fn take_case(
     }
 }
 
-fn end_line(out: &mut impl Write) -> io::Result<()> {
-    print_text(out, b"\n")
-}
-
 // The run's last line.
 fn print_last(out: &mut impl Write, r: Case, offset: u64) -> io::Result<()> {
-    match r {
-        Case::End => print_field(out, b"end ", offset)?,
-        _ => print_field(out, b"stop ", offset)?,
-    }
-    end_line(out)
+    let word = match r {
+        Case::End => "end",
+        _ => "stop",
+    };
+    writeln!(out, "{word} {offset}")
 }
 
 // A proved loop has to end, and nothing says that a file does. So the offset is bounded, by more than any file has.
@@ -100,7 +95,7 @@ fn answer_file(input: &mut impl BufRead, out: &mut impl Write) -> io::Result<()>
             return Ok(());
         }
         state = take_case(out, kind, &payload[..size], state, &mut store)?;
-        end_line(out)?;
+        writeln!(out)?;
         offset += case::HEAD + length as u64;
     }
     Ok(())

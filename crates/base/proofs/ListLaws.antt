@@ -7,7 +7,7 @@ use native.Mathlib.Nat.{add-zero}
 use native.Mathlib.Numerals.{add-one}
 use native.Mathlib.Omega.{arith}
 use lib.ListN.{length, take, drop, get_or, replicate, set, length-append, length-map, length-replicate, length-set, replicate-append-replicate}
-use lib.Seq.{append_snoc, drop-append-add, drop-cons, set-append_left, set_at, set_comm, sets, sets-eq, take_all, take-append_seam, take-nil, take-suc, take-suc-set, take-take}
+use lib.Seq.{append_snoc, drop-append-add, set-append_left, set_at, set_comm, sets, sets-eq, take_all, take-append_seam, take-nil, take-suc, take-suc-set, take-take}
 use Rattle.base.specs.Lists.{Each, padded}
 
 -- the length of an array of structs, from what is known of a parameter
@@ -21,13 +21,6 @@ take_capped l k n m h e = go (dec_le n k)
     go : Dec (n ≤ k) → take m l ≡ take n l
     go (yes j) = let f : m ≡ n = omega arith in rw f
     go (no j) = take_all m l (omega arith) ∙ sym (take_all n l (omega arith))
-
--- of the elements from an index on, the first apart
-pub taken_next : {A : Type 0} (l : List A) (d : A) (i m : ℕ) → i < length l → 0 < m → take m (drop i l) ≡ get_or l i d ∷ take (m - 1) (drop (i + 1) l)
-taken_next l d i zero h k = absurd (omega arith)
-taken_next l d i (suc m) h k =
-    let e : suc m - 1 ≡ m = omega arith in
-    rw (e, add-one i, drop-cons l i d h)
 
 -- a run of stores in two parts
 pub sets_append : {A : Type 0} (l : List A) (at : ℕ) (xs ys : List A) → sets l at (xs ++ ys) ≡ sets (sets l at xs) (at + length xs) ys

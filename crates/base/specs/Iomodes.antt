@@ -1,11 +1,8 @@
 -- "READ is 1, RW is 2, ANY is 3."
 use Rattle.std.specs.Prelude.{ℕ, eqb}
 use Rattle.base.specs.Answer.{Answer, accepted, refused, pick}
-use Rattle.base.specs.Refusals.{fault_number}
 use Rattle.base.specs.declared.iomode.Iomode.{Iomode}
 use Rattle.base.specs.declared.iomode.Iomode.TheVariants.{Read, ReadWrite, Any}
-use Rattle.base.specs.declared.iomode.ReadIomode.{ReadIomode}
-use Rattle.base.specs.declared.iomode.ReadIomode.TheVariants.{Value, Refused}
 
 abbrev pub number_of_iomode : Iomode → ℕ
 number_of_iomode Read = 1
@@ -20,8 +17,3 @@ iomode_of n =
 -- "a grant takes READ or RW"
 unfoldable pub grant_iomode_of : ℕ → Answer Iomode
 grant_iomode_of n = pick (eqb n 1) (accepted Read) (pick (eqb n 2) (accepted ReadWrite) (refused 3))
-
--- what the code's answer stands for
-abbrev pub answer_of_iomode : ReadIomode → Answer Iomode
-answer_of_iomode (Value m) = accepted m
-answer_of_iomode (Refused e) = refused (fault_number e)

@@ -6,4 +6,4 @@ pub mod Best
 pub mod Refusals
 pub mod Ranges
 pub mod Iomodes
-pub mod Checks
+pub mod Results

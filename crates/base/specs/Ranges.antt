@@ -1,9 +1,6 @@
 -- Ranges and I/O requests: which are allowed, and the last byte of each.
 use Rattle.std.specs.Prelude.{ℕ, ◌+◌, ◌-◌, ◌^◌, leb, eqb}
 use Rattle.base.specs.Answer.{Answer, accepted, refused, pick}
-use Rattle.base.specs.Refusals.{fault_number}
-use Rattle.base.specs.declared.range.RangeEnd.{RangeEnd}
-use Rattle.base.specs.declared.range.RangeEnd.TheVariants.{At, Refused}
 
 -- the last byte of a file: "byte 2^64 - 1"
 abbrev pub last_byte : ℕ
@@ -26,8 +23,3 @@ request_last offset len =
 -- + length must be at most 2^64 - 1.": for other lengths the rule is the one for I/O requests
 unfoldable pub range_last : ℕ → ℕ → Answer ℕ
 range_last offset len = pick (eqb len to_the_end) (accepted last_byte) (request_last offset len)
-
--- what the code's answer stands for
-abbrev pub answer_of_range_end : RangeEnd → Answer ℕ
-answer_of_range_end (At last) = accepted last
-answer_of_range_end (Refused e) = refused (fault_number e)

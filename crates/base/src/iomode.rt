@@ -1,8 +1,7 @@
 // Iomodes by their wire numbers.
 ghost use Rattle.std.specs.Prelude.{◌≡◌};
-ghost use Rattle.base.specs.Iomodes.{answer_of_iomode, grant_iomode_of, iomode_of, number_of_iomode};
-ghost use Rattle.base.specs.Answer.{refusal_in};
-ghost use Rattle.base.specs.Refusals.{fault_number};
+ghost use Rattle.base.specs.Iomodes.{grant_iomode_of, iomode_of, number_of_iomode};
+ghost use Rattle.base.specs.Results.{answer_of};
 
 use crate::refusal::Fault;
 
@@ -13,51 +12,42 @@ pub enum Iomode {
     Any,
 }
 
-#[derive(Clone, Copy)]
-pub enum ReadIomode {
-    Value(Iomode),
-    Refused(Fault),
+// What a return and a recall may name.
+impl TryFrom<u32> for Iomode {
+    type Error = Fault;
+
+    ghost try_from_gives = { λ n r. answer_of r ≡ iomode_of n };
+
+    #[tactic(auto, unfolding(crate::specs::Iomodes::iomode_of, crate::specs::Answer::pick))]
+    fn try_from(n: u32) -> Result<Iomode, Fault> {
+        match n {
+            1 => Ok(Iomode::Read),
+            2 => Ok(Iomode::ReadWrite),
+            3 => Ok(Iomode::Any),
+            _ => Err(Fault::IomodeNotAllowed),
+        }
+    }
 }
 
-// What a return and a recall may name.
-#[tactic(auto, unfolding(crate::specs::Iomodes::iomode_of, crate::specs::Answer::pick))]
-pub fn iomode_of(n: u32) -> ReadIomode
-    ensures { answer_of_iomode result ≡ iomode_of n }
-{
-    match n {
-        1 => ReadIomode::Value(Iomode::Read),
-        2 => ReadIomode::Value(Iomode::ReadWrite),
-        3 => ReadIomode::Value(Iomode::Any),
-        _ => ReadIomode::Refused(Fault::IomodeNotAllowed),
+impl From<Iomode> for u32 {
+    ghost from_gives = { λ m n. n ≡ number_of_iomode m };
+
+    fn from(m: Iomode) -> u32 {
+        match m {
+            Iomode::Read => 1,
+            Iomode::ReadWrite => 2,
+            Iomode::Any => 3,
+        }
     }
 }
 
 // What a grant may name.
 #[tactic(auto, unfolding(crate::specs::Iomodes::iomode_of, crate::specs::Iomodes::grant_iomode_of, crate::specs::Answer::pick))]
-pub fn grant_iomode(n: u32) -> ReadIomode
-    ensures { answer_of_iomode result ≡ grant_iomode_of n }
+pub fn grant_iomode(n: u32) -> Result<Iomode, Fault>
+    ensures { answer_of result ≡ grant_iomode_of n }
 {
     if n == 3 {
-        return ReadIomode::Refused(Fault::IomodeNotAllowed);
+        return Err(Fault::IomodeNotAllowed);
     }
-    iomode_of(n)
-}
-
-pub fn fault_of_iomode(r: ReadIomode) -> Fault
-    ensures { fault_number result ≡ refusal_in (answer_of_iomode r) }
-{
-    match r {
-        ReadIomode::Refused(e) => e,
-        ReadIomode::Value(_) => Fault::BytesRunOut,
-    }
-}
-
-pub fn iomode_number(m: Iomode) -> u32
-    ensures { result ≡ number_of_iomode m }
-{
-    match m {
-        Iomode::Read => 1,
-        Iomode::ReadWrite => 2,
-        Iomode::Any => 3,
-    }
+    Iomode::try_from(n)
 }

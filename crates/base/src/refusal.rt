@@ -1,6 +1,7 @@
 // What is refused, with the numbers of the scope's table: what a reader finds wrong, and what a call answers.
 ghost use Rattle.std.specs.Prelude.{◌≡◌};
 ghost use Rattle.base.specs.Refusals.{fault_number, number_of};
+ghost use Rattle.base.specs.declared.refusal.Refusal.TheVariants.{Fault};
 
 // What a reader of bytes and numbers finds wrong with them.
 #[derive(Clone, Copy)]
@@ -39,43 +40,55 @@ pub enum Refusal {
     OutputTooShort,
 }
 
-pub fn fault_number(f: Fault) -> u32
-    ensures { result ≡ fault_number f }
-{
-    match f {
-        Fault::BytesRunOut => 1,
-        Fault::BytesLeftOver => 2,
-        Fault::IomodeNotAllowed => 3,
-        Fault::LayoutTypeUnknown => 4,
-        Fault::RangeInvalid => 5,
-        Fault::PaddingNotZero => 6,
-        Fault::BooleanInvalid => 7,
-        Fault::OutsideLimit => 8,
-        Fault::ServerCountDiffers => 9,
-        Fault::UnitDisagrees => 10,
-        Fault::FlagUnknown => 11,
-        Fault::VersionInvalid => 12,
-        Fault::ErrorInvalid => 27,
-        Fault::TimeInvalid => 28,
+impl From<Fault> for Refusal {
+    ghost from_gives = { λ f r. r ≡ Fault f };
+
+    fn from(f: Fault) -> Refusal {
+        Refusal::Fault(f)
     }
 }
 
-pub fn number(e: Refusal) -> u32
-    ensures { result ≡ number_of e }
-{
-    match e {
-        Refusal::Fault(f) => fault_number(f),
-        Refusal::BindingDiffers => 13,
-        Refusal::NoSupportedVersion => 14,
-        Refusal::StateidNotZero => 15,
-        Refusal::BeyondLayout => 16,
-        Refusal::RightMissing => 17,
-        Refusal::Unsound => 20,
-        Refusal::HeldUnderOtherBody => 21,
-        Refusal::RecalledInRange => 22,
-        Refusal::TooManySegments => 23,
-        Refusal::NoFreeSlot => 24,
-        Refusal::NothingHeld => 25,
-        Refusal::OutputTooShort => 26,
+impl From<Fault> for u32 {
+    ghost from_gives = { λ f n. n ≡ fault_number f };
+
+    fn from(f: Fault) -> u32 {
+        match f {
+            Fault::BytesRunOut => 1,
+            Fault::BytesLeftOver => 2,
+            Fault::IomodeNotAllowed => 3,
+            Fault::LayoutTypeUnknown => 4,
+            Fault::RangeInvalid => 5,
+            Fault::PaddingNotZero => 6,
+            Fault::BooleanInvalid => 7,
+            Fault::OutsideLimit => 8,
+            Fault::ServerCountDiffers => 9,
+            Fault::UnitDisagrees => 10,
+            Fault::FlagUnknown => 11,
+            Fault::VersionInvalid => 12,
+            Fault::ErrorInvalid => 27,
+            Fault::TimeInvalid => 28,
+        }
+    }
+}
+
+impl From<Refusal> for u32 {
+    ghost from_gives = { λ e n. n ≡ number_of e };
+
+    fn from(e: Refusal) -> u32 {
+        match e {
+            Refusal::Fault(f) => u32::from(f),
+            Refusal::BindingDiffers => 13,
+            Refusal::NoSupportedVersion => 14,
+            Refusal::StateidNotZero => 15,
+            Refusal::BeyondLayout => 16,
+            Refusal::RightMissing => 17,
+            Refusal::Unsound => 20,
+            Refusal::HeldUnderOtherBody => 21,
+            Refusal::RecalledInRange => 22,
+            Refusal::TooManySegments => 23,
+            Refusal::NoFreeSlot => 24,
+            Refusal::NothingHeld => 25,
+            Refusal::OutputTooShort => 26,
+        }
     }
 }

@@ -7,7 +7,7 @@ ghost use Rattle.basilothyn.specs.Calls.{event_on_record, empty_record, record_r
 
 use abi_table::TableRecord;
 use base::Refusal;
-use events::{Event, Numbers, Outcome, Verdict};
+use events::{Event, Numbers, Outcome};
 
 #[repr(C)]
 #[derive(Clone, Copy)]
@@ -16,23 +16,21 @@ pub struct EventResult {
     pub table: TableRecord,
 }
 
-fn verdict_number(v: Verdict) -> u32
+fn verdict_number(v: Result<(), Refusal>) -> u32
     ensures { result ≡ number_of_verdict v }
 {
     match v {
-        Verdict::Accepted => 0,
-        Verdict::Refused(e) => base::number(e),
+        Ok(()) => 0,
+        Err(e) => u32::from(e),
     }
 }
 
 fn result_of(o: Outcome) -> EventResult
     ensures { result ≡ record { refusal = number_of_verdict o.verdict; table = record_of o.table } }
 {
-    let v = o.verdict;
-    let t = o.table;
     EventResult {
-        refusal: verdict_number(v),
-        table: abi_table::record_of(t),
+        refusal: verdict_number(o.verdict),
+        table: abi_table::record_of(o.table),
     }
 }
 
@@ -40,7 +38,7 @@ fn unsound(table: TableRecord) -> EventResult
     ensures { result ≡ record { refusal = 20; table = table } }
 {
     EventResult {
-        refusal: base::number(Refusal::Unsound),
+        refusal: u32::from(Refusal::Unsound),
         table,
     }
 }
@@ -51,15 +49,14 @@ pub fn basilothyn_empty_table() -> TableRecord
     abi_table::record_of(segments::empty_table())
 }
 
-fn call(table: TableRecord, store: &mut [u8], e: Event, bytes: &[u8]) -> EventResult
+// The record is borrowed: one by value would be copied once more.
+fn call(table: &TableRecord, store: &mut [u8], e: Event, bytes: &[u8]) -> EventResult
     ensures { record_result_of result store.new
-        ≡ event_on_record (event_of e bytes.now) table store.old }
+        ≡ event_on_record (event_of e bytes.now) table.now store.old }
 {
-    let taken = abi_table::table_of(table);
-    if !taken.valid {
-        return unsound(table);
-    }
-    let t = taken.table;
+    let Some(t) = abi_table::table_of(*table) else {
+        return unsound(*table);
+    };
     result_of(events::apply(t, store, e, bytes))
 }
 
@@ -67,7 +64,7 @@ pub fn basilothyn_grant(table: TableRecord, store: &mut [u8], bytes: &[u8]) -> E
     ensures { record_result_of result store.new
         ≡ event_on_record (Grant bytes.now) table store.old }
 {
-    call(table, store, Event::Grant, bytes)
+    call(&table, store, Event::Grant, bytes)
 }
 
 pub fn basilothyn_return(
@@ -85,7 +82,7 @@ pub fn basilothyn_return(
         len,
         iomode,
     };
-    call(table, store, Event::Return(n), b"")
+    call(&table, store, Event::Return(n), b"")
 }
 
 pub fn basilothyn_recall(
@@ -103,11 +100,11 @@ pub fn basilothyn_recall(
         len,
         iomode,
     };
-    call(table, store, Event::Recall(n), b"")
+    call(&table, store, Event::Recall(n), b"")
 }
 
 pub fn basilothyn_revoke(table: TableRecord, store: &mut [u8]) -> EventResult
     ensures { record_result_of result store.new ≡ event_on_record Revoke table store.old }
 {
-    call(table, store, Event::Revoke, b"")
+    call(&table, store, Event::Revoke, b"")
 }

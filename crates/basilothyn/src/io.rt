@@ -2,12 +2,12 @@
 ghost use Rattle.std.specs.Prelude.{◌≡◌, true, false};
 ghost use Rattle.base.specs.Answer.{refused};
 ghost use Rattle.base.specs.Refusals.{number_of};
-ghost use Rattle.route.specs.Answers.{answer_of_located};
+ghost use Rattle.base.specs.Results.{answered};
 ghost use Rattle.basilothyn.specs.Calls.{locate_result, routed_on};
 
 use abi_table::TableRecord;
 use base::Refusal;
-use route::Located;
+use route::Piece;
 
 // The mirrors are a set of bits, bit 0 being mirror 0. After a refusal all else is 0.
 #[repr(C)]
@@ -22,11 +22,12 @@ pub struct LocateResult {
     pub mirrors: u32,
 }
 
+#[tactic(auto, unfolding(crate::specs::Calls::locate_result))]
 fn refused(e: Refusal) -> LocateResult
     ensures { result ≡ locate_result (refused (number_of e)) }
 {
     LocateResult {
-        refusal: base::number(e),
+        refusal: u32::from(e),
         iomode: 0,
         slot: 0,
         stripe: 0,
@@ -36,36 +37,30 @@ fn refused(e: Refusal) -> LocateResult
     }
 }
 
-fn result_of(l: Located) -> LocateResult
-    ensures { result ≡ locate_result (answer_of_located l) }
+#[tactic(auto, unfolding(crate::specs::Calls::locate_result))]
+fn result_of(l: Result<Piece, Refusal>) -> LocateResult
+    ensures { result ≡ locate_result (answered l) }
 {
     match l {
-        Located::Refused(e) => refused(e),
-        Located::At(p) => {
-            let iomode = p.iomode;
-            let slot = p.slot;
-            let stripe = p.stripe;
-            LocateResult {
-                refusal: 0,
-                iomode: base::iomode_number(iomode),
-                slot: slot.0,
-                stripe: stripe.0,
-                offset: p.offset,
-                length: p.length,
-                mirrors: p.mirrors,
-            }
-        }
+        Err(e) => refused(e),
+        Ok(p) => LocateResult {
+            refusal: 0,
+            iomode: u32::from(p.iomode),
+            slot: p.slot.0,
+            stripe: p.stripe.0,
+            offset: p.offset,
+            length: p.length,
+            mirrors: p.mirrors,
+        },
     }
 }
 
-fn locate(table: TableRecord, store: &[u8], write: bool, offset: u64, len: u64) -> LocateResult
-    ensures { result ≡ routed_on write table store.now offset len }
+fn locate(table: &TableRecord, store: &[u8], write: bool, offset: u64, len: u64) -> LocateResult
+    ensures { result ≡ routed_on write table.now store.now offset len }
 {
-    let taken = abi_table::table_of(table);
-    if !taken.valid {
+    let Some(t) = abi_table::table_of(*table) else {
         return refused(Refusal::Unsound);
-    }
-    let t = taken.table;
+    };
     result_of(route::locate(t, store, write, offset, len))
 }
 
@@ -77,7 +72,7 @@ pub fn basilothyn_locate_read(
 ) -> LocateResult
     ensures { result ≡ routed_on false table store.now offset len }
 {
-    locate(table, store, false, offset, len)
+    locate(&table, store, false, offset, len)
 }
 
 pub fn basilothyn_locate_write(
@@ -88,5 +83,5 @@ pub fn basilothyn_locate_write(
 ) -> LocateResult
     ensures { result ≡ routed_on true table store.now offset len }
 {
-    locate(table, store, true, offset, len)
+    locate(&table, store, true, offset, len)
 }

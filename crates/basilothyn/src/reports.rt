@@ -2,13 +2,13 @@
 ghost use Rattle.std.specs.Prelude.{◌≡◌, length};
 ghost use Rattle.base.specs.Lists.{length_of};
 ghost use Rattle.report.specs.Writing.{output_after, reports_written, return_written};
-ghost use Rattle.report.specs.WriteAnswers.{answer_of_written};
+ghost use Rattle.base.specs.Results.{answered};
 ghost use Rattle.error_list.specs.Entries.{entries_of};
 ghost use Rattle.basilothyn.specs.ReportCalls.{write_result};
 
-use base::REPORT_ENTRIES;
+use base::{REPORT_ENTRIES, Refusal};
 use error_list::ErrorEntry;
-use report::{Outgoing, ReportHead, Written};
+use report::{Outgoing, ReportHead};
 
 // C passes no array by value.
 #[repr(C)]
@@ -25,16 +25,17 @@ pub struct WriteResult {
     pub length: u64,
 }
 
-fn result_of(w: Written) -> WriteResult
-    ensures { result ≡ write_result (answer_of_written w) }
+#[tactic(auto, unfolding(crate::specs::ReportCalls::write_result))]
+fn result_of(w: Result<usize, Refusal>) -> WriteResult
+    ensures { result ≡ write_result (answered w) }
 {
     match w {
-        Written::Length(n) => WriteResult {
+        Ok(n) => WriteResult {
             refusal: 0,
             length: n as u64,
         },
-        Written::Refused(e) => WriteResult {
-            refusal: base::number(e),
+        Err(e) => WriteResult {
+            refusal: u32::from(e),
             length: 0,
         },
     }

@@ -5,24 +5,20 @@ use mathlib.Core.Bool.{Bool, true, false}
 use mathlib.Core.List.{List, [], ◌∷◌}
 use native.Mathlib.Omega.{arith}
 use lib.ListN.{length, drop, get_or, take, length-take, drop_of_length-le}
-use lib.Seq.{drop-cons, get_or-take}
+use lib.Seq.{drop-cons}
 use Rattle.base.specs.Answer.{accepted, refused, pick}
 use Rattle.device.specs.Versions.{blank_version}
 use Rattle.device.specs.declared.version.Version.{Version}
 use Rattle.binding.specs.Bindings.{chosen_from, supports}
 
-pub chosen_next : (set n i : ℕ) (vs : List Version) → i < n → n ≤ length vs
-    → chosen_from set i (drop i (take n vs)) ≡ pick (supports set (get_or vs i blank_version)) (accepted i) (chosen_from set (i + 1) (drop (suc i) (take n vs)))
+pub chosen_next : (set i : ℕ) (vs : List Version) → i < length vs
+    → chosen_from set i (drop i vs) ≡ pick (supports set (get_or vs i blank_version)) (accepted i) (chosen_from set (i + 1) (drop (suc i) vs))
 unfolding chosen_from
-chosen_next set n i vs h k =
-    let l : i < length (take n vs) = simp length-take (omega arith) in
-    rw (drop-cons (take n vs) i blank_version l, get_or-take n vs i blank_version h)
+chosen_next set i vs h = rw (drop-cons vs i blank_version h)
 
-pub chosen_none : (set n i : ℕ) (vs : List Version) → n ≤ i → chosen_from set i (drop i (take n vs)) ≡ refused 14
+pub chosen_none : (set i : ℕ) (vs : List Version) → length vs ≤ i → chosen_from set i (drop i vs) ≡ refused 14
 unfolding chosen_from
-chosen_none set n i vs h =
-    let l : length (take n vs) ≤ i = simp length-take (omega arith) in
-    rw (drop_of_length-le (take n vs) l)
+chosen_none set i vs h = rw (drop_of_length-le vs h)
 
 -- an entry that was chosen is one of those looked at
 chosen_within : (set i : ℕ) (vs : List Version) (k : ℕ) → chosen_from set i vs ≡ accepted k → k < i + length vs

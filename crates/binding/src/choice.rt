@@ -1,70 +1,47 @@
 // Which version entry is chosen, and the filehandle with its number.
-ghost use Rattle.std.specs.Prelude.{◌≡◌, ◌≤◌, ◌<◌, take};
+ghost use Rattle.std.specs.Prelude.{◌≡◌, ◌≤◌, length};
 ghost use Rattle.base.specs.Limits.{most_versions};
-ghost use Rattle.base.specs.Answer.{refusal_in};
-ghost use Rattle.base.specs.Refusals.{number_of};
-ghost use Rattle.xdr.specs.Answers.{parsed_of_part};
+ghost use Rattle.base.specs.Results.{answered};
+ghost use Rattle.xdr.specs.Answers.{parsed_of};
 ghost use Rattle.binding.specs.Bindings.{chosen_from, handle_at, supports};
-ghost use Rattle.binding.specs.Answers.{answer_of_choice};
 
-use base::{Fault, LONGEST_FILEHANDLE, Refusal, VERSION_ENTRIES};
+use base::{LONGEST_FILEHANDLE, Refusal};
 use device::Version;
-use xdr::{Cursor, ReadEnd, ReadPart};
-
-#[derive(Clone, Copy)]
-pub enum Choice {
-    Entry(u32),
-    Refused(Refusal),
-}
+use xdr::{Cursor, Part, Read};
 
 // Bits 1, 2, 4 and 8 stand for 3, 4.0, 4.1 and 4.2.
+#[tactic(auto, unfolding(crate::specs::Bindings::supports, base::specs::Answer::pick))]
 pub(crate) fn supported_by(set: u32, v: Version) -> bool
     ensures { result ≡ supports set v }
 {
-    if v.version == 3 {
-        return base::has_bit(set, 1);
-    }
-    if v.minor == 0 {
-        return base::has_bit(set, 2);
-    }
-    if v.minor == 1 {
-        return base::has_bit(set, 4);
-    }
-    base::has_bit(set, 8)
+    let value = match (v.version, v.minor) {
+        (3, _) => 1,
+        (_, 0) => 2,
+        (_, 1) => 4,
+        _ => 8,
+    };
+    base::has_bit(set, value)
 }
 
-// The first of the n entries that is supported.
-pub(crate) fn choose(set: u32, versions: [Version; VERSION_ENTRIES], n: u32) -> Choice
-    requires { n ≤ most_versions }
-    ensures { answer_of_choice result ≡ chosen_from set 0 (take n versions) }
+// The first of the entries that is supported.
+#[tactic(auto, using(crate::proofs::BindingLaws::chosen_next, crate::proofs::BindingLaws::chosen_none), unfolding(base::specs::Answer::pick))]
+pub(crate) fn choose(set: u32, versions: &[Version]) -> Result<u32, Refusal>
+    requires { length versions.now ≤ most_versions }
+    ensures { answered result ≡ chosen_from set 0 versions.now }
 {
-    let mut i: u32 = 0;
-    while i < n {
-        let v = versions[i as usize];
+    for (i, &v) in versions.iter().enumerate() {
         if supported_by(set, v) {
-            return Choice::Entry(i);
+            return Ok(i as u32);
         }
-        i += 1;
     }
-    Choice::Refused(Refusal::NoSupportedVersion)
-}
-
-pub(crate) fn refusal_of_choice(r: Choice) -> Refusal
-    ensures { number_of result ≡ refusal_in (answer_of_choice r) }
-{
-    match r {
-        Choice::Refused(e) => e,
-        Choice::Entry(_) => Refusal::Fault(Fault::BytesRunOut),
-    }
+    Err(Refusal::NoSupportedVersion)
 }
 
 // The filehandle after i others.
-pub(crate) fn read_handle(s: &[u8], first: Cursor, i: u32) -> ReadPart
-    ensures { parsed_of_part result ≡ handle_at i s.now first.at }
+#[tactic(auto, using(xdr::proofs::EndLaws::end_was_read, xdr::proofs::EndLaws::end_was_refused), unfolding(crate::specs::Bindings::handle_at, xdr::specs::Parsed::then))]
+pub(crate) fn read_handle(s: &[u8], first: Cursor, i: u32) -> Read<Part>
+    ensures { parsed_of result ≡ handle_at i s.now first.at }
 {
-    let p = server::skip_handles(s, first, i);
-    let ReadEnd::Value(c) = p else {
-        return ReadPart::Refused(xdr::fault_of_end(p));
-    };
+    let c = server::skip_handles(s, first, i)?;
     xdr::read_opaque(s, c, 1, LONGEST_FILEHANDLE)
 }

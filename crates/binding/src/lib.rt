@@ -6,4 +6,4 @@ mod choice;
 mod entry;
 
 pub use bind_body::bind;
-pub use entry::{Binding, Bound};
+pub use entry::Bound;

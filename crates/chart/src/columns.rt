@@ -1,7 +1,6 @@
 // The columns of a chart: the pieces that the core answers from an offset on, one after the other.
 use base::{LARGEST_SUM, StripeNumber};
 use drawing::{Column, Columns};
-use route::Located;
 use segments::Table;
 
 const NO_COLUMN: Column = Column {
@@ -23,13 +22,13 @@ fn gap(first: u64, offset: u64) -> u64 {
 // The core is asked for the longest request that starts here.
 fn column_at(t: Table, store: &[u8], write: bool, first: u64, offset: u64) -> Column {
     match route::locate(t, store, write, offset, LARGEST_SUM - offset) {
-        Located::At(p) => Column {
+        Ok(p) => Column {
             offset,
             length: p.length,
             stripe: p.stripe,
             mirrors: p.mirrors,
         },
-        Located::Refused(_) => Column {
+        Err(_) => Column {
             offset,
             length: gap(first, offset),
             stripe: StripeNumber(0),

@@ -4,13 +4,6 @@ use std::io::Read;
 use std::rt::Files;
 use std::{fs, io, str};
 
-#[derive(Clone, Copy)]
-pub enum ReadFile {
-    Length(usize),
-    // Standard error says why.
-    Unread,
-}
-
 // As many of the file's first bytes as the buffer holds; how many they are.
 fn read_path(rt: &impl Files, path: &str, bytes: &mut [u8]) -> io::Result<usize> {
     let file = fs::open(rt, path)?;
@@ -27,25 +20,26 @@ fn print_failure(rt: &(impl Eprint + Alloc), what: &str, error: io::Error) -> io
     eprintln!(rt; "{what}: {reason}")
 }
 
-// Puts the file's first bytes into the buffer and answers how many they are.
+// Puts the file's first bytes into the buffer and answers how many they are. None where it cannot be read: standard
+// error then says why.
 pub(crate) fn read_file<R: Env + Files + Eprint + Alloc>(
     rt: &R,
     bytes: &mut [u8],
-) -> io::Result<ReadFile> {
+) -> io::Result<Option<usize>> {
     let mut name = [0u8; 4096];
     let Ok(n) = rt.arg(1, &mut name) else {
         eprintln!(rt; "chart: File name too long")?;
-        return Ok(ReadFile::Unread);
+        return Ok(None);
     };
     let Ok(path) = str::from_utf8(&name[..n]) else {
         eprintln!(rt; "chart: the file's name is not UTF-8")?;
-        return Ok(ReadFile::Unread);
+        return Ok(None);
     };
     match read_path(rt, path, bytes) {
-        Ok(n) => Ok(ReadFile::Length(n)),
+        Ok(n) => Ok(Some(n)),
         Err(error) => {
             print_failure(rt, path, error)?;
-            Ok(ReadFile::Unread)
+            Ok(None)
         }
     }
 }

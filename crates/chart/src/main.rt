@@ -7,15 +7,13 @@ mod columns;
 mod file;
 mod refusal_text;
 
-use arguments::{Options, ReadOptions};
+use arguments::Options;
 use base::{Iomode, MOST_STARTS, Refusal, STORE_SIZE};
 use columns::find_columns;
 use drawing::ChartInput;
-use events::{Event, Verdict};
-use file::ReadFile;
+use events::Event;
 use layout::Summary;
-use layout4::{Layout4, Layout4Answer};
-use print::print_text;
+use layout4::Layout4;
 use refusal_text::print_refused;
 use segments::Table;
 use std::io;
@@ -56,9 +54,9 @@ fn draw(
     let units = units_shown(options, summary.servers);
     let columns = find_columns(t, store, writes(&layout.iomode), layout.offset, from, units);
     if columns.count == 0 {
-        return print_text(
+        return writeln!(
             out,
-            b"nothing to draw: no I/O reaches byte 18446744073709551615\n",
+            "nothing to draw: no I/O reaches byte 18446744073709551615"
         );
     }
     let s = ChartInput {
@@ -77,26 +75,26 @@ fn draw(
 fn chart(out: &mut impl Write, bytes: &[u8], options: Options) -> io::Result<()> {
     let mut store = [0u8; STORE_SIZE];
     let o = events::apply(segments::empty_table(), &mut store, Event::Grant, bytes);
-    if let Verdict::Refused(e) = o.verdict {
+    if let Err(e) = o.verdict {
         return print_refused(out, e);
     }
     let r = layout4::read_layout4(bytes);
-    let Layout4Answer::Value(layout, summary) = r.answer else {
-        return print_refused(out, Refusal::Fault(layout4::fault_of_layout4(r.answer)));
-    };
-    draw(
-        out, bytes, &store, o.table, layout, summary, r.starts, options,
-    )
+    match r.answer {
+        Ok((layout, summary)) => draw(
+            out, bytes, &store, o.table, layout, summary, r.starts, options,
+        ),
+        Err(e) => print_refused(out, Refusal::from(e)),
+    }
 }
 
 // The longest layout4 has 4,120 bytes. Of a longer file the bytes that the buffer holds are refused just as all of
 // them are.
 fn run<R: Env + Files + Eprint + Alloc>(rt: &R, out: &mut impl Write) -> io::Result<()> {
-    let ReadOptions::Value(options) = arguments::read_options(rt) else {
+    let Some(options) = arguments::read_options(rt) else {
         return arguments::print_usage(out);
     };
     let mut bytes = [0u8; 8192];
-    let ReadFile::Length(n) = file::read_file(rt, &mut bytes)? else {
+    let Some(n) = file::read_file(rt, &mut bytes)? else {
         return Ok(());
     };
     if bytes.len() < n {

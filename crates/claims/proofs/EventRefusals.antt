@@ -13,10 +13,12 @@ use Rattle.base.specs.Ranges.{last_byte, range_last}
 use Rattle.base.specs.declared.iomode.Iomode.{Iomode}
 use Rattle.base.specs.declared.iomode.Iomode.TheVariants.{Any}
 use Rattle.layout4.specs.Layout4s.{layout4}
+use Rattle.std.specs.Prelude.{Option, None, Some}
+use Rattle.segments.specs.declared.Segments.{Segments}
 use Rattle.segments.specs.declared.Table.{Table}
 use Rattle.segments.specs.Segments.{empty_table, list_of}
 use Rattle.table.specs.declared.change.Change.{Change}
-use Rattle.table.specs.Edits.{table_edited}
+use Rattle.table.specs.Edits.{both_fit, table_edited}
 use Rattle.store.specs.Store.{Body}
 use Rattle.slots.specs.declared.choice.SlotChoice.{SlotChoice}
 use Rattle.slots.specs.declared.choice.SlotChoice.TheVariants.{Holding, Free, NoneLeft}
@@ -59,6 +61,11 @@ command_refusals Revoke = accepts
 
 -- ---- answers, on whatever table and store
 
+both_fit_refusals : (r w : Option Segments) → RefusalsIn (23 ∷ []) (both_fit r w)
+both_fit_refusals (Some r) (Some w) = accepts
+both_fit_refusals (Some r) None = refuses 23 refl
+both_fit_refusals None w = refuses 23 refl
+
 -- a call's answer is one of a list
 record AnswersIn (ns : List ℕ) (l : CallResult Table) : Type 0 where
   listed : is_one_of l.answer ns ≡ true
@@ -80,7 +87,7 @@ module _ (t : Table) (store : List ℕ) where
 
   edit_refusals : (c : Change) (i : Iomode) (first last : ℕ) → RefusalsIn (23 ∷ []) (table_edited c i first last t)
   unfolding table_edited
-  edit_refusals c i first last = tested_answer _ 23 accepts refl
+  edit_refusals c i first last = both_fit_refusals _ _
 
   change_answers : {ns : List ℕ} (p : Update) (b : Body) (i : Iomode) (first last : ℕ) → is_one_of 0 ns ≡ true → all_in (23 ∷ []) ns ≡ true
       → AnswersIn ns (update_result p b i first last t store)

@@ -3,10 +3,11 @@
 
 mod address;
 mod body;
+mod list;
 mod netid;
 mod version;
 
 pub use address::Address;
-pub use body::{DeviceAnswer, DeviceRead, fault_of_device, read_device};
+pub use body::{DeviceCounts, DeviceRead, read_device};
 pub use netid::NetidClass;
 pub use version::Version;

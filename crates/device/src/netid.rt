@@ -13,6 +13,8 @@ pub enum NetidClass {
     Rdma6,
 }
 
+// Not a match on the bytes: its proof has 29 goals, one for each way that lengths and bytes may differ.
+#[tactic(auto, unfolding(crate::specs::Netids::class_of, base::specs::Answer::pick))]
 pub(crate) fn class_of(s: &[u8]) -> NetidClass
     ensures { result ≡ class_of s.now }
 {

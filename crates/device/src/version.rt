@@ -1,12 +1,11 @@
 // One version entry of a device body.
 ghost use Rattle.std.specs.Prelude.{◌≡◌};
-ghost use Rattle.xdr.specs.Parsed.{fault_in};
-ghost use Rattle.base.specs.Refusals.{fault_number};
+ghost use Rattle.xdr.specs.Answers.{parsed_of};
 ghost use Rattle.device.specs.Versions.{version_at, version_fits};
-ghost use Rattle.device.specs.VersionAnswers.{parsed_of_version};
 
+use crate::list::Item;
 use base::Fault;
-use xdr::{Cursor, ReadBool, ReadU32};
+use xdr::{Cursor, Read};
 
 #[derive(Clone, Copy)]
 pub struct Version {
@@ -15,12 +14,6 @@ pub struct Version {
     pub rsize: u32,
     pub wsize: u32,
     pub tight: bool,
-}
-
-#[derive(Clone, Copy)]
-pub(crate) enum ReadVersion {
-    Value(Version, Cursor),
-    Refused(Fault),
 }
 
 #[tactic(auto, unfolding(crate::specs::Versions::version_fits))]
@@ -33,56 +26,34 @@ fn version_fits(v: Version) -> bool
     if v.wsize == 0 {
         return false;
     }
-    let version = v.version;
-    match version {
+    match v.version {
         3 => v.minor == 0 && !v.tight,
         4 => v.minor <= 2,
         _ => false,
     }
 }
 
-// All five fields are read before the entry is judged.
-pub(crate) fn read_version(s: &[u8], c: Cursor) -> ReadVersion
-    ensures { parsed_of_version result ≡ version_at s.now c.at }
-{
-    let r1 = xdr::read_u32(s, c);
-    let ReadU32::Value(version, c1) = r1 else {
-        return ReadVersion::Refused(xdr::fault_of_u32(r1));
-    };
-    let r2 = xdr::read_u32(s, c1);
-    let ReadU32::Value(minor, c2) = r2 else {
-        return ReadVersion::Refused(xdr::fault_of_u32(r2));
-    };
-    let r3 = xdr::read_u32(s, c2);
-    let ReadU32::Value(rsize, c3) = r3 else {
-        return ReadVersion::Refused(xdr::fault_of_u32(r3));
-    };
-    let r4 = xdr::read_u32(s, c3);
-    let ReadU32::Value(wsize, c4) = r4 else {
-        return ReadVersion::Refused(xdr::fault_of_u32(r4));
-    };
-    let r5 = xdr::read_bool(s, c4);
-    let ReadBool::Value(tight, c5) = r5 else {
-        return ReadVersion::Refused(xdr::fault_of_bool(r5));
-    };
-    let v = Version {
-        version: version,
-        minor: minor,
-        rsize: rsize,
-        wsize: wsize,
-        tight: tight,
-    };
-    if !version_fits(v) {
-        return ReadVersion::Refused(Fault::VersionInvalid);
-    }
-    ReadVersion::Value(v, c5)
-}
+impl Item for Version {
+    ghost item_at = { version_at };
 
-pub(crate) fn fault_of_version(r: ReadVersion) -> Fault
-    ensures { fault_number result ≡ fault_in (parsed_of_version r) }
-{
-    match r {
-        ReadVersion::Refused(e) => e,
-        ReadVersion::Value(_, _) => Fault::BytesRunOut,
+    // All five fields are read before the entry is judged.
+    #[tactic(auto, unfolding(crate::specs::Versions::version_at, crate::specs::Versions::checked_version, xdr::specs::Parsed::then, base::specs::Answer::pick))]
+    fn read(s: &[u8], c: Cursor) -> Read<Version> {
+        let (version, c1) = xdr::read_u32(s, c)?;
+        let (minor, c2) = xdr::read_u32(s, c1)?;
+        let (rsize, c3) = xdr::read_u32(s, c2)?;
+        let (wsize, c4) = xdr::read_u32(s, c3)?;
+        let (tight, c5) = xdr::read_bool(s, c4)?;
+        let v = Version {
+            version,
+            minor,
+            rsize,
+            wsize,
+            tight,
+        };
+        if !version_fits(v) {
+            return Err(Fault::VersionInvalid);
+        }
+        Ok((v, c5))
     }
 }

@@ -1,5 +1,5 @@
 // The columns of a chart: one piece after the other.
-use base::{MOST_MIRRORS, MirrorNumber, StripeNumber, larger};
+use base::{MOST_MIRRORS, MirrorNumber, StripeNumber};
 use print::digits;
 
 // The bytes from an offset on, and where they go. Without mirrors there is no right.
@@ -39,9 +39,9 @@ pub(crate) fn goes_to(c: &Column, m: MirrorNumber, k: StripeNumber) -> bool {
 pub(crate) fn widest(columns: &Columns) -> u64 {
     let mut width: u64 = 6;
     for c in columns.shown() {
-        width = larger(width, digits(c.offset));
+        width = width.max(digits(c.offset));
         if c.mirrors != 0 {
-            width = larger(width, digits(c.length));
+            width = width.max(digits(c.length));
         }
     }
     width

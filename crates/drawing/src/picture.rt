@@ -1,10 +1,10 @@
 // The chart as an SVG picture: a lane for each server, a coloured box for each stripe unit that goes there.
-use crate::caption::{print_box_key, print_gap_key, print_range, print_summary};
+use crate::caption::{GAP_KEY, print_box_key, print_range, print_summary};
 use crate::columns::{Column, Columns, goes_to, widest};
 use crate::input::{ChartInput, efficiency_at, server_at};
-use base::{MirrorNumber, StripeNumber, larger};
+use base::{MirrorNumber, StripeNumber};
 use layout::Summary;
-use print::{print_device_id, print_field, print_fields, print_text};
+use print::device_id;
 use std::io;
 use std::io::Write;
 use svg::{
@@ -40,12 +40,12 @@ fn add_capped(value: u64, by: u64) -> u64 {
 
 fn print_mark(out: &mut impl Write, layer: Layer, c: &Column, x: u64) -> io::Result<()> {
     match layer {
-        Layer::Offsets(y) => print_label(out, add_capped(x, 10), y, b"-40", c.offset),
+        Layer::Offsets(y) => print_label(out, add_capped(x, 10), y, "-40", c.offset),
         Layer::Lengths(y) if c.mirrors != 0 => print_label(
             out,
             add_capped(x, 10),
             y,
-            b"40",
+            "40",
             c.length,
         ),
         Layer::Lines(from, to) => print_line(out, x, from, to),
@@ -104,21 +104,20 @@ fn print_name(
     y: u64,
 ) -> io::Result<()> {
     let at = server_at(s, m, k);
-    let efficiency = efficiency_at(bytes, at) as u64;
-    let values = [add_capped(y, 15), m.0 as u64, k.0 as u64, efficiency];
-    print_fields(
+    writeln!(
         out,
-        b"<text x=\"28\" y=\"#\">mirror #, stripe #, efficiency #</text>\n",
-        &values,
+        "<text x=\"28\" y=\"{}\">mirror {}, stripe {}, efficiency {}</text>",
+        add_capped(y, 15),
+        m.0,
+        k.0,
+        efficiency_at(bytes, at)
     )?;
-    print_field(
+    writeln!(
         out,
-        b"<text class=\"mono\" x=\"28\" y=\"",
+        "<text class=\"mono\" x=\"28\" y=\"{}\">device {}</text>",
         add_capped(y, 31),
-    )?;
-    print_text(out, b"\">device ")?;
-    print_device_id(out, bytes, at)?;
-    print_text(out, b"</text>\n")
+        device_id(bytes, at)
+    )
 }
 
 fn print_server(
@@ -169,22 +168,20 @@ fn print_mirrors(
 
 // Of the lines here the longest has 700 pixels, in a wide font.
 fn print_head(out: &mut impl Write, s: &ChartInput) -> io::Result<()> {
-    print_text(
+    writeln!(
         out,
-        b"<rect width=\"100%\" height=\"100%\" fill=\"#ffffff\"/>\n",
+        "<rect width=\"100%\" height=\"100%\" fill=\"#ffffff\"/>"
     )?;
-    print_text(
+    write!(
         out,
-        b"<text class=\"title\" x=\"28\" y=\"46\">Stripe chart</text>\n<text x=\"28\" y=\"76\">",
+        "<text class=\"title\" x=\"28\" y=\"46\">Stripe chart</text>\n<text x=\"28\" y=\"76\">"
     )?;
     print_range(out, &s.layout)?;
-    print_text(out, b"</text>\n<text x=\"28\" y=\"98\">")?;
+    write!(out, "</text>\n<text x=\"28\" y=\"98\">")?;
     print_summary(out, &s.summary)?;
-    print_text(out, b"</text>\n<text x=\"28\" y=\"120\">")?;
+    write!(out, "</text>\n<text x=\"28\" y=\"120\">")?;
     print_box_key(out, &s.layout.iomode)?;
-    print_text(out, b"</text>\n<text x=\"28\" y=\"142\">")?;
-    print_gap_key(out)?;
-    print_text(out, b"</text>\n")
+    writeln!(out, "</text>\n<text x=\"28\" y=\"142\">{GAP_KEY}</text>")
 }
 
 // The legend, eight entries a line.
@@ -213,9 +210,9 @@ fn print_columns(
     let to = add_capped(lower, 4);
     print_layer(out, Layer::Lines(top, to), columns)?;
     print_line(out, right, top, to)?;
-    print_edge(out, b"offset", LEFT - 12, top)?;
+    print_edge(out, "offset", LEFT - 12, top)?;
     print_layer(out, Layer::Offsets(top), columns)?;
-    print_edge(out, b"bytes", LEFT - 12, add_capped(lower, 20))?;
+    print_edge(out, "bytes", LEFT - 12, add_capped(lower, 20))?;
     print_layer(out, Layer::Lengths(add_capped(lower, 20)), columns)?;
     Ok(())
 }
@@ -230,7 +227,7 @@ pub fn draw_picture(out: &mut impl Write, bytes: &[u8], s: &ChartInput) -> io::R
     let legend = add_capped(add_capped(lower, 30), room);
     print_size(
         out,
-        larger(add_capped(right, room), 900),
+        add_capped(right, room).max(900),
         add_capped(legend, 74),
     )?;
     print_style(out)?;
@@ -238,5 +235,5 @@ pub fn draw_picture(out: &mut impl Write, bytes: &[u8], s: &ChartInput) -> io::R
     print_columns(out, &s.columns, right, top, lower)?;
     print_mirrors(out, bytes, s, lanes, width)?;
     print_legend(out, s.summary.servers, legend)?;
-    print_text(out, b"</svg>\n")
+    writeln!(out, "</svg>")
 }

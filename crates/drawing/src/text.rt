@@ -1,9 +1,9 @@
 // The chart in text: servers down the side, offsets along the top.
-use crate::caption::{print_box_key, print_gap_key, print_range, print_summary};
+use crate::caption::{GAP_KEY, print_box_key, print_range, print_summary};
 use crate::columns::{Column, Columns, goes_to, widest};
 use crate::input::{ChartInput, efficiency_at, server_at};
 use base::{MirrorNumber, StripeNumber};
-use print::{print_device_id, print_right, print_text, print_times};
+use print::device_id;
 use std::io;
 use std::io::Write;
 
@@ -16,11 +16,11 @@ pub enum Row {
     Server(MirrorNumber, StripeNumber),
 }
 
-fn print_length(out: &mut impl Write, c: &Column, width: u64) -> io::Result<()> {
+fn print_length(out: &mut impl Write, c: &Column, width: usize) -> io::Result<()> {
     if c.mirrors == 0 {
-        return print_times(out, b" ", width);
+        return write!(out, "{:>width$}", "");
     }
-    print_right(out, c.length, width)
+    write!(out, "{:>width$}", c.length)
 }
 
 fn print_box(
@@ -28,28 +28,28 @@ fn print_box(
     c: &Column,
     m: MirrorNumber,
     k: StripeNumber,
-    width: u64,
+    width: usize,
 ) -> io::Result<()> {
     if goes_to(c, m, k) {
-        return print_times(out, b"#", width);
+        return write!(out, "{:#>width$}", "");
     }
-    print_times(out, b" ", width)
+    write!(out, "{:>width$}", "")
 }
 
-fn print_cell(out: &mut impl Write, row: Row, c: &Column, width: u64) -> io::Result<()> {
-    print_text(out, b" | ")?;
+fn print_cell(out: &mut impl Write, row: Row, c: &Column, width: usize) -> io::Result<()> {
+    write!(out, " | ")?;
     match row {
-        Row::Offsets => print_right(out, c.offset, width),
+        Row::Offsets => write!(out, "{:>width$}", c.offset),
         Row::Lengths => print_length(out, c, width),
         Row::Server(m, k) => print_box(out, c, m, k, width),
     }
 }
 
-fn print_cells(out: &mut impl Write, row: Row, columns: &Columns, width: u64) -> io::Result<()> {
+fn print_cells(out: &mut impl Write, row: Row, columns: &Columns, width: usize) -> io::Result<()> {
     for c in columns.shown() {
         print_cell(out, row, c, width)?;
     }
-    print_text(out, b" |\n")
+    writeln!(out, " |")
 }
 
 fn print_server(
@@ -58,15 +58,17 @@ fn print_server(
     s: &ChartInput,
     m: MirrorNumber,
     k: StripeNumber,
-    width: u64,
+    width: usize,
 ) -> io::Result<()> {
     let at = server_at(s, m, k);
-    print_right(out, m.0 as u64, 6)?;
-    print_right(out, k.0 as u64, 8)?;
-    print_text(out, b"  ")?;
-    print_device_id(out, bytes, at)?;
-    print_right(out, efficiency_at(bytes, at) as u64, 12)?;
-    print_text(out, b"        ")?;
+    write!(
+        out,
+        "{:>6}{:>8}  {}{:>12}        ",
+        m.0,
+        k.0,
+        device_id(bytes, at),
+        efficiency_at(bytes, at)
+    )?;
     print_cells(out, Row::Server(m, k), &s.columns, width)
 }
 
@@ -75,7 +77,7 @@ fn print_mirror(
     bytes: &[u8],
     s: &ChartInput,
     m: MirrorNumber,
-    width: u64,
+    width: usize,
 ) -> io::Result<()> {
     for k in 0..s.summary.servers {
         print_server(out, bytes, s, m, StripeNumber(k), width)?;
@@ -83,7 +85,12 @@ fn print_mirror(
     Ok(())
 }
 
-fn print_mirrors(out: &mut impl Write, bytes: &[u8], s: &ChartInput, width: u64) -> io::Result<()> {
+fn print_mirrors(
+    out: &mut impl Write,
+    bytes: &[u8],
+    s: &ChartInput,
+    width: usize,
+) -> io::Result<()> {
     for m in 0..s.summary.mirrors {
         print_mirror(out, bytes, s, MirrorNumber(m), width)?;
     }
@@ -92,27 +99,25 @@ fn print_mirrors(out: &mut impl Write, bytes: &[u8], s: &ChartInput, width: u64)
 
 fn print_head(out: &mut impl Write, s: &ChartInput) -> io::Result<()> {
     print_range(out, &s.layout)?;
-    print_text(out, b"\n")?;
+    writeln!(out)?;
     print_summary(out, &s.summary)?;
-    print_text(out, b"\n")?;
+    writeln!(out)?;
     print_box_key(out, &s.layout.iomode)?;
-    print_text(out, b"; ")?;
-    print_gap_key(out)?;
-    print_text(out, b"\n\n")
+    writeln!(out, "; {GAP_KEY}\n")
 }
 
 pub fn draw_text(out: &mut impl Write, bytes: &[u8], s: &ChartInput) -> io::Result<()> {
-    let width = widest(&s.columns);
+    let width = widest(&s.columns) as usize;
     print_head(out, s)?;
-    print_text(
+    write!(
         out,
-        b"mirror  stripe  device id                         efficiency  offset",
+        "mirror  stripe  device id                         efficiency  offset",
     )?;
     print_cells(out, Row::Offsets, &s.columns, width)?;
     print_mirrors(out, bytes, s, width)?;
-    print_text(
+    write!(
         out,
-        b"                                                               bytes",
+        "                                                               bytes",
     )?;
     print_cells(out, Row::Lengths, &s.columns, width)
 }

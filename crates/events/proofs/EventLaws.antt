@@ -4,9 +4,9 @@ use mathlib.Core.Path.{◌≡◌, refl, sym, ap, ◌∙◌}
 use mathlib.Core.Bool.{Bool, true, false}
 use mathlib.Core.List.{List}
 use Rattle.base.proofs.AnswerLaws.{never_accepted, same_answer}
-use Rattle.base.specs.Answer.{accepted, refused, given, pick}
 use Rattle.base.specs.Refusals.{number_of}
 use Rattle.base.specs.declared.refusal.Refusal.{Refusal}
+use Rattle.base.specs.Answer.{accepted, refused, given, pick}
 use Rattle.base.specs.declared.iomode.Iomode.{Iomode}
 use Rattle.layout4.specs.Layout4s.{WholeLayout, layout4}
 use Rattle.segments.specs.declared.Table.{Table}
@@ -24,8 +24,8 @@ use Rattle.slots.specs.declared.choice.SlotChoice.{SlotChoice}
 use Rattle.slots.specs.Slots.{cleared_from, is_set}
 use Rattle.events.specs.declared.command.Action.{Action}
 use Rattle.events.specs.declared.command.Action.TheVariants as action
+use Rattle.std.specs.Prelude.{Ok, Err}
 use Rattle.events.specs.declared.outcome.Outcome.{Outcome}
-use Rattle.events.specs.declared.outcome.Verdict.TheVariants.{Accepted, Refused}
 use Rattle.events.specs.declared.decision.Update.{Update}
 use Rattle.events.specs.declared.decision.Update.TheVariants as update
 use Rattle.events.specs.Answers.{action_of, result_of}
@@ -83,7 +83,7 @@ module _ (h choice : SlotChoice) (c : Condition) (i : Iomode) (first last : ℕ)
 -- ---- the stages
 
 module _ (t : Table) (store : List ℕ) where
-  pub refused_left : (o : Outcome) (e : Refusal) → o ≡ record { verdict = Refused e; table = t } → result_of o store ≡ refused_with (number_of e) t store
+  pub refused_left : (o : Outcome) (e : Refusal) → o ≡ record { verdict = Err e; table = t } → result_of o store ≡ refused_with (number_of e) t store
   refused_left o e h = ap (λ (o : Outcome). result_of o store) h
 
   module _ (s : Update) (b : Body) (i : Iomode) (first last : ℕ) where
@@ -92,7 +92,7 @@ module _ (t : Table) (store : List ℕ) where
     does_not_fit e = rw e refl
 
     pub is_done : (u : Table) (o : Outcome) (after : List ℕ) → table_edited (change_of s) i first last t ≡ accepted u
-        → o ≡ record { verdict = Accepted; table = u } → after ≡ store_after s b (is_named t) (is_named u) store
+        → o ≡ record { verdict = Ok tt; table = u } → after ≡ store_after s b (is_named t) (is_named u) store
         → result_of o after ≡ update_result s b i first last t store
     unfolding update_result stage
     is_done u o after e h k = rw e (λ j. result_of (h j) (k j))

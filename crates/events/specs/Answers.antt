@@ -1,5 +1,5 @@
--- What the types of the events' code stand for: an event, its command, what the rights say, and an outcome.
-use Rattle.std.specs.Prelude.{ℕ, ◌+◌, ◌≤◌, List}
+-- What the types of the events' code stand for: an event, its command, and an outcome.
+use Rattle.std.specs.Prelude.{ℕ, ◌+◌, ◌≤◌, List, Result, Ok, Err}
 use Rattle.base.specs.Refusals.{fault_number, number_of}
 use Rattle.base.specs.Answer.{Answer, accepted, refused}
 use Rattle.octets.specs.Numbers.{bytes_from}
@@ -12,14 +12,9 @@ use Rattle.events.specs.declared.event.Event.TheVariants as event
 use Rattle.events.specs.declared.command.Action.{Action}
 use Rattle.events.specs.declared.command.Action.TheVariants as action
 use Rattle.events.specs.declared.command.Command.{Command}
-use Rattle.events.specs.declared.command.ReadCommand.{ReadCommand}
-use Rattle.events.specs.declared.command.ReadCommand.TheVariants as command
-use Rattle.events.specs.declared.decision.Update.{Update}
-use Rattle.events.specs.declared.decision.Decision.{Decision}
-use Rattle.events.specs.declared.decision.Decision.TheVariants as decision
 use Rattle.events.specs.declared.outcome.Outcome.{Outcome}
-use Rattle.events.specs.declared.outcome.Verdict.{Verdict}
-use Rattle.events.specs.declared.outcome.Verdict.TheVariants.{Accepted, Refused}
+use Rattle.base.specs.declared.refusal.Fault.{Fault}
+use Rattle.base.specs.declared.refusal.Refusal.{Refusal}
 
 -- ---- an event and its command; bytes: those of a grant
 
@@ -45,26 +40,20 @@ command_of o bytes = record {
   len = o.len;
 }
 
-abbrev pub answer_of_command : ReadCommand → List ℕ → Answer model.Command
-answer_of_command (command.Value o) bytes = accepted (command_of o bytes)
-answer_of_command (command.Refused e) bytes = refused (fault_number e)
+abbrev pub answer_of_command : Result Command Fault → List ℕ → Answer model.Command
+answer_of_command (Ok o) bytes = accepted (command_of o bytes)
+answer_of_command (Err e) bytes = refused (fault_number e)
 
 -- the body of a command lies in n bytes
-abbrev pub BodyIn : ReadCommand → ℕ → Type 0
-BodyIn (command.Value o) n = o.body.start + o.body.len ≤ n
-BodyIn (command.Refused e) n = Unit {0}
-
--- ---- what the rights say
-
-abbrev pub answer_of_decision : Decision → Answer Update
-answer_of_decision (decision.Allowed s) = accepted s
-answer_of_decision (decision.Refused e) = refused (number_of e)
+abbrev pub BodyIn : Result Command Fault → ℕ → Type 0
+BodyIn (Ok o) n = o.body.start + o.body.len ≤ n
+BodyIn (Err e) n = Unit {0}
 
 -- ---- an outcome: 0 for accepted, else the refusal's number
 
-abbrev pub number_of_verdict : Verdict → ℕ
-number_of_verdict Accepted = 0
-number_of_verdict (Refused e) = number_of e
+abbrev pub number_of_verdict : Result (Unit {0}) Refusal → ℕ
+number_of_verdict (Ok u) = 0
+number_of_verdict (Err e) = number_of e
 
 -- an outcome and the store after it
 abbrev pub result_of : Outcome → List ℕ → CallResult Table

@@ -1,13 +1,10 @@
 // The second stage of an event: its own bytes and numbers. "5 before 3".
 ghost use Rattle.std.specs.Prelude.{◌≡◌, List, [], ℕ, length};
-ghost use Rattle.base.specs.Answer.{refusal_in};
-ghost use Rattle.base.specs.Refusals.{fault_number};
 ghost use Rattle.model.specs.Model.{Grant, read_command, range_command};
 ghost use Rattle.events.specs.Answers.{BodyIn, answer_of_command, action_of, event_of};
 
 use crate::event::{Event, Numbers};
-use base::{Fault, Iomode, RangeEnd, ReadIomode};
-use layout4::Layout4Answer;
+use base::{Fault, Iomode};
 use segments::Span;
 use xdr::Part;
 
@@ -30,31 +27,20 @@ pub(crate) struct Command {
     pub body: Part,
 }
 
-#[derive(Clone, Copy)]
-pub(crate) enum ReadCommand {
-    Value(Command),
-    Refused(Fault),
-}
-
 const NO_BYTES: Part = Part { start: 0, len: 0 };
 
-fn grant_command(bytes: &[u8]) -> ReadCommand
+fn grant_command(bytes: &[u8]) -> Result<Command, Fault>
     ensures { (answer_of_command result bytes.now ≡ read_command (Grant bytes.now))
         × BodyIn result (length bytes.now) }
 {
-    let r = layout4::read_layout4(bytes);
-    let a = r.answer;
-    let Layout4Answer::Value(l, _) = a else {
-        return ReadCommand::Refused(layout4::fault_of_layout4(a));
-    };
-    let iomode = l.iomode;
+    let (l, _) = layout4::read_layout4(bytes).answer?;
     let span = Span {
-        iomode,
+        iomode: l.iomode,
         first: l.offset,
         last: l.last,
     };
     let body = l.body;
-    ReadCommand::Value(Command {
+    Ok(Command {
         action: Action::Grant,
         span,
         len: l.length,
@@ -63,34 +49,28 @@ fn grant_command(bytes: &[u8]) -> ReadCommand
 }
 
 // Of an action that is no grant.
-fn range_command(action: Action, n: Numbers) -> ReadCommand
+#[tactic(auto, unfolding(model::specs::Model::range_command, base::specs::Answer::given))]
+fn range_command(action: Action, n: Numbers) -> Result<Command, Fault>
     ensures { (bytes : List ℕ)
         → (answer_of_command result bytes ≡ range_command (action_of action []) n.offset n.len n.iomode)
         × BodyIn result (length bytes) }
 {
-    let e = base::range_last(n.offset, n.len);
-    let RangeEnd::At(last) = e else {
-        return ReadCommand::Refused(base::fault_of_range_end(e));
-    };
-    let m = base::iomode_of(n.iomode);
-    let ReadIomode::Value(iomode) = m else {
-        return ReadCommand::Refused(base::fault_of_iomode(m));
-    };
+    let last = base::range_last(n.offset, n.len)?;
+    let iomode = Iomode::try_from(n.iomode)?;
     let span = Span {
         iomode,
         first: n.offset,
         last,
     };
-    let body = NO_BYTES;
-    ReadCommand::Value(Command {
+    Ok(Command {
         action,
         span,
         len: n.len,
-        body,
+        body: NO_BYTES,
     })
 }
 
-pub(crate) fn read_command(e: Event, bytes: &[u8]) -> ReadCommand
+pub(crate) fn read_command(e: Event, bytes: &[u8]) -> Result<Command, Fault>
     ensures { (answer_of_command result bytes.now ≡ read_command (event_of e bytes.now))
         × BodyIn result (length bytes.now) }
 {
@@ -104,22 +84,12 @@ pub(crate) fn read_command(e: Event, bytes: &[u8]) -> ReadCommand
                 first: 0,
                 last: base::LAST_BYTE,
             };
-            let body = NO_BYTES;
-            ReadCommand::Value(Command {
+            Ok(Command {
                 action: Action::Revoke,
                 span,
                 len: base::TO_THE_END,
-                body,
+                body: NO_BYTES,
             })
         }
-    }
-}
-
-pub(crate) fn fault_of_command(r: ReadCommand) -> Fault
-    ensures { fault_number result ≡ refusal_in (answer_of_command r []) }
-{
-    match r {
-        ReadCommand::Refused(e) => e,
-        ReadCommand::Value(_) => Fault::BytesRunOut,
     }
 }

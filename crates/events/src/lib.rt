@@ -10,7 +10,7 @@ mod stages;
 mod update;
 
 pub use event::{Event, Numbers};
-pub use outcome::{Outcome, Verdict};
+pub use outcome::Outcome;
 pub use stages::apply;
 // What the definitions of the stages speak of.
 pub use decision::Update;

@@ -5,8 +5,8 @@ ghost use Rattle.lookup.specs.Lookup.{named_slots};
 ghost use Rattle.events.specs.Answers.{event_of, command_of, result_of};
 ghost use Rattle.events.specs.Events.{event_result, command_result};
 
-use crate::command::{Command, ReadCommand, fault_of_command, read_command};
-use crate::decision::{Decision, decide, refusal_of_decision};
+use crate::command::{Command, read_command};
+use crate::decision::decide;
 use crate::event::Event;
 use crate::outcome::{Outcome, refused};
 use crate::update::apply_update;
@@ -15,26 +15,23 @@ use segments::Table;
 
 // The third stage and those after it, on a table that is sound.
 fn apply_command(
-    t: Table,
+    t: &Table,
     named: [bool; SLOT_ENTRIES],
     store: &mut [u8],
     o: Command,
     bytes: &[u8],
 ) -> Outcome
-    requires { (named ≡ named_slots t) × (o.body.start + o.body.len ≤ length bytes.now) }
+    requires { (named ≡ named_slots t.now) × (o.body.start + o.body.len ≤ length bytes.now) }
     ensures { result_of result store.new
-        ≡ command_result (accepted (command_of o bytes.now)) t store.old }
+        ≡ command_result (accepted (command_of o bytes.now)) t.now store.old }
 {
-    let at = o.body;
-    let start = at.start;
-    let end = start + at.len;
-    let action = o.action;
-    let span = o.span;
-    let r = decide(t, named, store, action, span, &bytes[start..end]);
-    let Decision::Allowed(s) = r else {
-        return refused(t, refusal_of_decision(r));
+    let start = o.body.start;
+    let end = start + o.body.len;
+    let s = match decide(t, named, store, o.action, o.span, &bytes[start..end]) {
+        Ok(s) => s,
+        Err(e) => return refused(*t, e),
     };
-    apply_update(t, named, store, s, span, &bytes[start..end])
+    apply_update(t, named, store, s, o.span, &bytes[start..end])
 }
 
 // A grant's bytes are in `bytes`; those of another event are not looked at.
@@ -46,10 +43,10 @@ pub fn apply(t: Table, store: &mut [u8], e: Event, bytes: &[u8]) -> Outcome
     if !j.sound {
         return refused(t, Refusal::Unsound);
     }
-    let r = read_command(e, bytes);
-    let ReadCommand::Value(o) = r else {
-        return refused(t, Refusal::Fault(fault_of_command(r)));
+    let o = match read_command(e, bytes) {
+        Ok(o) => o,
+        Err(fault) => return refused(t, Refusal::from(fault)),
     };
     let named = j.named;
-    apply_command(t, named, store, o, bytes)
+    apply_command(&t, named, store, o, bytes)
 }

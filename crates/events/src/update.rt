@@ -9,7 +9,7 @@ ghost use Rattle.events.specs.Events.{update_result, change_of, store_after};
 use crate::decision::Update;
 use crate::outcome::{Outcome, accepted, refused};
 use base::{Refusal, SLOT_ENTRIES};
-use segments::{READ_LIST, RW_LIST, Segments, Span, Table};
+use segments::{READ_LIST, RW_LIST, Span, Table};
 use table::Change;
 
 fn change_of(s: Update) -> Change
@@ -23,53 +23,40 @@ fn change_of(s: Update) -> Change
     }
 }
 
-// `was` says which slots the table before the edit names; read and rw are the lists after it.
-fn update_store(
-    s: Update,
-    was: [bool; SLOT_ENTRIES],
-    read: Segments,
-    rw: Segments,
-    store: &mut [u8],
-    body: &[u8],
-)
+// `was` says which slots the table before the edit names.
+fn update_store(s: Update, was: [bool; SLOT_ENTRIES], after: &Table, store: &mut [u8], body: &[u8])
     ensures { store.new
-        ≡ store_after s body.now (is_set was) (is_named (record { read = read; rw = rw }))
+        ≡ store_after s body.now (is_set was) (is_named after.now)
         store.old }
 {
     match s {
         Update::GrantKnown(_) => {}
         Update::GrantNew(i) => store::lay_body(store, i, body),
-        Update::Clear => slots::clear_unnamed(was, lookup::named_slots(Table { read, rw }), store),
+        Update::Clear => slots::clear_unnamed(was, lookup::named_slots(*after), store),
         Update::Recall => {}
     }
 }
 
 pub(crate) fn apply_update(
-    t: Table,
+    t: &Table,
     named: [bool; SLOT_ENTRIES],
     store: &mut [u8],
     s: Update,
     span: Span,
     body: &[u8],
 ) -> Outcome
-    requires { named ≡ named_slots t }
+    requires { named ≡ named_slots t.now }
     ensures { result_of result store.new
-        ≡ update_result s body.now span.iomode span.first span.last t store.old }
+        ≡ update_result s body.now span.iomode span.first span.last t.now store.old }
 {
     let c = change_of(s);
-    let old_read = t.read;
-    let old_rw = t.rw;
-    let r = table::edit_list(old_read, READ_LIST, c, span);
-    let w = table::edit_list(old_rw, RW_LIST, c, span);
-    if !r.fits {
-        return refused(t, Refusal::TooManySegments);
-    }
-    if !w.fits {
-        return refused(t, Refusal::TooManySegments);
-    }
-    let read = r.segments;
-    let rw = w.segments;
-    update_store(s, named, read, rw, store, body);
+    let Some(read) = table::edit_list(&t.read, READ_LIST, c, span) else {
+        return refused(*t, Refusal::TooManySegments);
+    };
+    let Some(rw) = table::edit_list(&t.rw, RW_LIST, c, span) else {
+        return refused(*t, Refusal::TooManySegments);
+    };
     let u = Table { read, rw };
+    update_store(s, named, &u, store, body);
     accepted(u)
 }

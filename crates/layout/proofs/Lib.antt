@@ -1,4 +1,3 @@
-pub mod BodyLaws
 pub mod FrontLaws
 pub mod LayoutLaws
 pub mod StartLaws

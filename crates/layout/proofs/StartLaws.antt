@@ -1,11 +1,11 @@
 -- Laws of the table of starts as the loops fill it.
-use Prim.Native.Nat.{ℕ, zero, suc, ◌+◌, ◌-◌, ◌<◌}
-use mathlib.Core.Path.{◌≡◌, refl, ap, ◌∙◌}
-use mathlib.Core.List.{List, ◌∷◌, map}
+use Prim.Native.Nat.{ℕ, zero, suc, ◌+◌, ◌-◌, ◌≤◌, ◌<◌}
+use mathlib.Core.Path.{◌≡◌, refl, sym, ap, ◌∙◌}
+use mathlib.Core.List.{List, [], ◌∷◌, ◌++◌, append-nil, append_assoc, map}
 use native.Mathlib.Numerals.{add-one}
 use native.Mathlib.Omega.{arith}
-use lib.ListN.{set}
-use lib.Seq.{sets}
+use lib.ListN.{length, take, drop, set, length-drop, length-map, drop_of_length-le}
+use lib.Seq.{drop-drop, length-take-le, sets, sets-eq}
 use Rattle.xdr.specs.Parsed.{Parsed, ok, fault, then, many_at}
 use Rattle.xdr.proofs.ManyLaws.{first_then, none_then, refused_then}
 use Rattle.server.specs.Servers.{server_at}
@@ -29,6 +29,45 @@ module _ (n k : ℕ) (s : List ℕ) (at : ℕ) (t : List ℕ) where
   unfolding with_servers
   servers_next v p h q d =
       rw add-one (first_then server_at n s at _ v p h q ∙ ap (λ (x : ℕ). with_servers (suc k) (many_at server_at (n - 1) s p) (set t k x)) d)
+
+-- ---- a part of the table, lent for one row
+
+part_stored : (k n : ℕ) (t ds : List ℕ) → length ds ≡ n → k + n ≤ length t
+    → sets t k ds ≡ take k t ++ (sets (take n (drop k t)) 0 ds ++ drop n (drop k t))
+part_stored k n t ds e h =
+    let part = take n (drop k t) in
+    let long : length part ≡ n = length-take-le n (drop k t) (omega (arith, length-drop k t)) in
+    let none : drop (0 + length ds) part ≡ [] = drop_of_length-le part (omega arith) in
+    let here : sets part 0 ds ≡ ds = sets-eq ds part 0 (omega arith) ∙ ap (λ (l : List ℕ). ds ++ l) none ∙ append-nil ds in
+    let rest : drop n (drop k t) ≡ drop (k + length ds) t = drop-drop n k t ∙ ap (λ (x : ℕ). drop x t) (omega arith) in
+    rw (here, rest) (sets-eq ds t k (omega arith) ∙ append_assoc (take k t) ds (drop (k + length ds) t))
+
+-- as many servers as the part has entries, read into it: m is its length as the loan counts it
+module _ (k n m : ℕ) (x : ℕ → Parsed (List Server)) (t : List ℕ) (same : m ≡ n) (within : k + n ≤ length t) where
+  part_long : length (take m (drop k t)) ≡ n
+  part_long = rw same (length-take-le n (drop k t) (omega (arith, length-drop k t)))
+
+  pub part_refused : (e : ℕ) → with_servers 0 (x (length (take m (drop k t)))) (take m (drop k t)) ≡ fault e → with_servers k (x n) t ≡ fault e
+  unfolding with_servers then
+  part_refused e h = go (x n) (rw part_long at h) where
+    go : (y : Parsed (List Server)) → with_servers 0 y (take m (drop k t)) ≡ fault e → with_servers k y t ≡ fault e
+    go (ok vs q) f = let z : ◌≡◌ {A = ℕ} 0 1 = cc in absurd (omega arith)
+    go (fault i) f = f
+
+  pub part_read : (row : List ℕ) (p : ℕ) → ((vs : List Server) (q : ℕ) → x n ≡ ok vs q → length vs ≡ n)
+      → with_servers 0 (x (length (take m (drop k t)))) (take m (drop k t)) ≡ ok row p
+      → with_servers k (x n) t ≡ ok (take k t ++ (row ++ drop m (drop k t))) p
+  unfolding with_servers then
+  part_read row p long h = go (x n) long (rw part_long at h) where
+    go : (y : Parsed (List Server)) → ((vs : List Server) (q : ℕ) → y ≡ ok vs q → length vs ≡ n)
+        → with_servers 0 y (take m (drop k t)) ≡ ok row p → with_servers k y t ≡ ok (take k t ++ (row ++ drop m (drop k t))) p
+    go (ok vs q) long f =
+        let ds = map (λ v. v.device) vs in
+        let all : length ds ≡ m = length-map vs _ ∙ long vs q refl ∙ sym same in
+        let e : q ≡ p = cc in
+        let g : sets (take m (drop k t)) 0 ds ≡ row = cc in
+        rw (← e, ← g) (ap (λ (l : List ℕ). ok l q) (part_stored k m t ds all (omega arith)))
+    go (fault i) long f = let z : ◌≡◌ {A = ℕ} 0 1 = cc in absurd (omega arith)
 
 -- ---- mirrors
 

@@ -21,7 +21,7 @@ use Rattle.layout.specs.Starts.{set_rows, with_mirrors}
 abbrev pub HasServers : ℕ → List Server → Type 0
 HasServers n m = length m ≡ n
 
-mirror_has : (n : ℕ) (s : List ℕ) (at : ℕ) (m : List Server) (p : ℕ) → mirror_at n s at ≡ ok m p → HasServers n m
+pub mirror_has : (n : ℕ) (s : List ℕ) (at : ℕ) (m : List Server) (p : ℕ) → mirror_at n s at ≡ ok m p → HasServers n m
 unfolding mirror_at
 mirror_has n s at m p e =
     let r = then_inv _ _ m p e in

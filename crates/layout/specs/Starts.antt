@@ -1,18 +1,18 @@
 -- The table of starts as the loops fill it: what they read, stored from an index on. A step in between: `starts_of`
 -- says what comes of it.
-use Rattle.std.specs.Prelude.{ℕ, ◌+◌, List, [], ◌∷◌, map}
+use Rattle.std.specs.Prelude.{ℕ, ◌+◌, List, [], ◌∷◌, map, Result, Ok, Err}
 use Rattle.std.proofs.lemmas.List.Edits.{sets}
 use Rattle.base.specs.Limits.{most_servers}
 use Rattle.base.specs.Refusals.{fault_number}
+use Rattle.base.specs.declared.refusal.Fault.{Fault}
 use Rattle.xdr.specs.Parsed.{Parsed, ok, fault, then}
 use Rattle.server.specs.declared.item.Server.{Server}
-use Rattle.xdr.specs.declared.end.ReadEnd.{ReadEnd}
-use Rattle.xdr.specs.declared.end.ReadEnd.TheVariants.{Value, Refused}
+use Rattle.xdr.specs.declared.Cursor.{Cursor}
 
 -- the table and the offset after what was read; a refusal says nothing of the table
-abbrev pub parsed_of_starts : ReadEnd → List ℕ → Parsed (List ℕ)
-parsed_of_starts (Value c) table = ok table c.at
-parsed_of_starts (Refused e) table = fault (fault_number e)
+abbrev pub parsed_of_starts : Result Cursor Fault → List ℕ → Parsed (List ℕ)
+parsed_of_starts (Ok c) table = ok table c.at
+parsed_of_starts (Err e) table = fault (fault_number e)
 
 -- the starts of a mirror's servers from the index k on
 unfoldable pub with_servers : ℕ → Parsed (List Server) → List ℕ → Parsed (List ℕ)

@@ -6,6 +6,6 @@ mod front_and_tail;
 mod mirrors;
 mod start;
 
-pub use body::{LayoutAnswer, LayoutRead, Summary, fault_of_layout, read_layout};
+pub use body::{LayoutRead, Summary, read_layout};
 pub use front_and_tail::flags_at_end;
 pub use start::start_of;

@@ -8,58 +8,35 @@ ghost use Rattle.layout.specs.Layouts.{mirror_at, mirrors_at};
 ghost use Rattle.layout.specs.Starts.{parsed_of_starts, with_servers, with_mirrors};
 
 use base::{Fault, MOST_SERVERS, MOST_STARTS, ROW_ENTRIES};
-use server::ReadServer;
-use xdr::{Cursor, ReadEnd, ReadU32};
+use xdr::Cursor;
 
-// n servers, their starts from the index first on.
-fn read_servers(
-    s: &[u8],
-    c: Cursor,
-    n: u32,
-    first: usize,
-    starts: &mut [u16; MOST_STARTS],
-) -> ReadEnd
-    requires { (length s.now ≤ longest_body) × (c.at ≤ length s.now) × (first + n ≤ most_starts) }
-    ensures { parsed_of_starts result starts.new
-        ≡ with_servers first (many_at server_at n s.now c.at) starts.old }
+// As many servers as the row has entries, which take their starts.
+fn read_servers(s: &[u8], c: Cursor, row: &mut [u16]) -> Result<Cursor, Fault>
+    requires { (length s.now ≤ longest_body) × (c.at ≤ length s.now) }
+    ensures { parsed_of_starts result row.new
+        ≡ with_servers 0 (many_at server_at (length row.old) s.now c.at) row.old }
 {
     let mut d = c;
-    let mut left = n;
-    let mut k = first;
-    while 0 < left {
-        let r = server::read_server(s, d);
-        let ReadServer::Value(_, e) = r else {
-            return ReadEnd::Refused(server::fault_of_server(r));
-        };
-        let at = d.at;
-        starts[k] = at as u16;
+    for start in row.iter_mut() {
+        let (_, e) = server::read_server(s, d)?;
+        *start = d.at as u16;
         d = e;
-        k += 1;
-        left -= 1;
     }
-    ReadEnd::Value(d)
+    Ok(d)
 }
 
-// A mirror after the first: its count, then its n servers.
-fn read_mirror(
-    s: &[u8],
-    c: Cursor,
-    n: u32,
-    first: usize,
-    starts: &mut [u16; MOST_STARTS],
-) -> ReadEnd
-    requires { (length s.now ≤ longest_body) × (first + n ≤ most_starts) }
-    ensures { parsed_of_starts result starts.new
-        ≡ with_servers first (mirror_at n s.now c.at) starts.old }
+// A mirror after the first: its count, which is the row's, then its servers.
+#[tactic(auto, using(xdr::proofs::Accepted::count_read), unfolding(crate::specs::Layouts::mirror_at, crate::specs::Starts::with_servers, xdr::specs::Parsed::then, base::specs::Answer::pick))]
+fn read_mirror(s: &[u8], c: Cursor, row: &mut [u16]) -> Result<Cursor, Fault>
+    requires { length s.now ≤ longest_body }
+    ensures { parsed_of_starts result row.new
+        ≡ with_servers 0 (mirror_at (length row.old) s.now c.at) row.old }
 {
-    let r = xdr::read_count(s, c, 1, MOST_SERVERS);
-    let ReadU32::Value(count, d) = r else {
-        return ReadEnd::Refused(xdr::fault_of_u32(r));
-    };
-    if count != n {
-        return ReadEnd::Refused(Fault::ServerCountDiffers);
+    let (count, d) = xdr::read_count(s, c, 1, MOST_SERVERS)?;
+    if count as usize != row.len() {
+        return Err(Fault::ServerCountDiffers);
     }
-    read_servers(s, d, n, first, starts)
+    read_servers(s, d, row)
 }
 
 // All mirrors, from the first server on. The start of a server is at the index mirror * 16 + stripe.
@@ -69,25 +46,17 @@ pub(crate) fn read_mirrors(
     mirrors: u32,
     servers: u32,
     starts: &mut [u16; MOST_STARTS],
-) -> ReadEnd
+) -> Result<Cursor, Fault>
     requires { (length s.now ≤ longest_body) × (c.at ≤ length s.now) × (mirrors ≤ most_mirrors)
         × (servers ≤ most_servers) }
     ensures { parsed_of_starts result starts.new
         ≡ with_mirrors 0 (mirrors_at mirrors servers s.now c.at) starts.old }
 {
-    let f = read_servers(s, c, servers, 0, starts);
-    let ReadEnd::Value(c1) = f else {
-        return f;
-    };
-    let mut d = c1;
-    let mut m: usize = 1;
-    while m < mirrors as usize {
-        let r = read_mirror(s, d, servers, m * ROW_ENTRIES, starts);
-        let ReadEnd::Value(e) = r else {
-            return r;
-        };
-        d = e;
-        m += 1;
+    let n = servers as usize;
+    let mut d = read_servers(s, c, &mut starts[..n])?;
+    for m in 1..mirrors as usize {
+        let first = m * ROW_ENTRIES;
+        d = read_mirror(s, d, &mut starts[first..first + n])?;
     }
-    ReadEnd::Value(d)
+    Ok(d)
 }

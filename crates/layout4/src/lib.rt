@@ -4,4 +4,4 @@
 mod frame;
 mod whole;
 
-pub use whole::{Layout4, Layout4Answer, Layout4Read, fault_of_layout4, read_layout4};
+pub use whole::{Layout4, Layout4Read, read_layout4};

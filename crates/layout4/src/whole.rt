@@ -1,15 +1,13 @@
 // A layout4 as a whole. Its body is read in its own length, so that a fault in it comes before its padding.
-ghost use Rattle.std.specs.Prelude.{◌≡◌, [], ◌+◌, leb, length};
-ghost use Rattle.base.specs.Answer.{refusal_in};
-ghost use Rattle.base.specs.Refusals.{fault_number};
+ghost use Rattle.std.specs.Prelude.{◌≡◌, ◌+◌, leb, length};
 ghost use Rattle.xdr.specs.Items.{padding};
 ghost use Rattle.layout4.specs.Layout4s.{layout4};
 ghost use Rattle.layout4.specs.Answers.{RefusedLayout4, answer_of_layout4, starts_of_whole};
 
-use crate::frame::{Frame, ReadFrame, fault_of_frame, read_frame};
+use crate::frame::{Frame, read_frame};
 use base::{Fault, Iomode, MOST_STARTS};
-use layout::{LayoutAnswer, Summary};
-use xdr::{Cursor, Part, ReadPart};
+use layout::Summary;
+use xdr::{Cursor, Part};
 
 // Offset and length as on the wire, the last byte, and where the body is.
 #[derive(Clone, Copy)]
@@ -21,26 +19,12 @@ pub struct Layout4 {
     pub body: Part,
 }
 
-#[derive(Clone, Copy)]
-pub enum Layout4Answer {
-    Value(Layout4, Summary),
-    Refused(Fault),
-}
-
-// The starts are the body's, counted from its first byte; all 0 after a refusal.
+// The starts are the body's, counted from its first byte. After a refusal they are promised to be all 0, and so stand
+// beside the answer, and not in its `Ok`.
 #[derive(Clone, Copy)]
 pub struct Layout4Read {
-    pub answer: Layout4Answer,
+    pub answer: Result<(Layout4, Summary), Fault>,
     pub starts: [u16; MOST_STARTS],
-}
-
-fn refused(e: Fault) -> Layout4Read
-    ensures { RefusedLayout4 e result }
-{
-    Layout4Read {
-        answer: Layout4Answer::Refused(e),
-        starts: [0u16; MOST_STARTS],
-    }
 }
 
 fn layout4_in(frame: Frame, body: Part) -> Layout4
@@ -52,13 +36,11 @@ fn layout4_in(frame: Frame, body: Part) -> Layout4
       body = body;
     } }
 {
-    let range = frame.range;
-    let iomode = frame.iomode;
     Layout4 {
-        offset: range.offset,
-        length: range.length,
-        last: range.last,
-        iomode,
+        offset: frame.range.offset,
+        length: frame.range.length,
+        last: frame.range.last,
+        iomode: frame.iomode,
         body,
     }
 }
@@ -75,44 +57,46 @@ fn enough(s: &[u8], at: usize, n: u32) -> bool
     k + pad <= s.len() - at
 }
 
+fn refused(e: Fault) -> Layout4Read
+    ensures { RefusedLayout4 e result }
+{
+    Layout4Read {
+        answer: Err(e),
+        starts: [0u16; MOST_STARTS],
+    }
+}
+
+// Not an inner chain of `?` over a lent table of starts: to blank that table first makes each read a tenth slower.
+#[tactic(auto, unfolding(crate::specs::Layout4s::layout4, crate::specs::Layout4s::layout4_at, crate::specs::Answers::starts_of_whole, xdr::specs::Parsed::then, xdr::specs::Parsed::as_item, xdr::specs::Parsed::whole, base::specs::Answer::pick))]
 pub fn read_layout4(s: &[u8]) -> Layout4Read
     ensures { (answer_of_layout4 result.answer result.starts ≡ layout4 s.now)
         × (result.starts ≡ starts_of_whole (layout4 s.now)) }
 {
-    let f = read_frame(s, Cursor { at: 0 });
-    let ReadFrame::Value(frame, c1) = f else {
-        return refused(fault_of_frame(f));
+    let (frame, c1) = match read_frame(s, Cursor { at: 0 }) {
+        Ok(framed) => framed,
+        Err(e) => return refused(e),
     };
     let at = c1.at;
     if !enough(s, at, frame.size) {
         return refused(Fault::BytesRunOut);
     }
     let end = at + frame.size as usize;
-    let body = layout::read_layout(&s[at..end]);
-    let a = body.answer;
-    let LayoutAnswer::Value(summary) = a else {
-        return refused(layout::fault_of_layout(a));
+    let read = layout::read_layout(&s[at..end]);
+    let summary = match read.answer {
+        Ok(summary) => summary,
+        Err(e) => return refused(e),
     };
-    let p = xdr::read_bytes(s, c1, frame.size as usize);
-    let ReadPart::Value(part, c2) = p else {
-        return refused(xdr::fault_of_part(p));
+    let (body, c2) = match xdr::read_bytes(s, c1, frame.size as usize) {
+        Ok(part) => part,
+        Err(e) => return refused(e),
     };
     if c2.at != s.len() {
         return refused(Fault::BytesLeftOver);
     }
-    let starts = body.starts;
-    let l = layout4_in(frame, part);
+    let layout = layout4_in(frame, body);
+    let starts = read.starts;
     Layout4Read {
-        answer: Layout4Answer::Value(l, summary),
+        answer: Ok((layout, summary)),
         starts,
-    }
-}
-
-pub fn fault_of_layout4(r: Layout4Answer) -> Fault
-    ensures { fault_number result ≡ refusal_in (answer_of_layout4 r []) }
-{
-    match r {
-        Layout4Answer::Refused(e) => e,
-        Layout4Answer::Value(_, _) => Fault::BytesRunOut,
     }
 }

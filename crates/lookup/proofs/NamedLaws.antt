@@ -10,9 +10,8 @@ use lib.ListN.{length, drop, get_or, replicate, set}
 use lib.Seq.{ext_get_or, get_or-set_other, get_or-set_same}
 use Rattle.base.proofs.ListLaws.{default_behind}
 use Rattle.segments.specs.declared.Segment.{Segment}
-use Rattle.segments.specs.declared.Segments.{Segments}
 use Rattle.segments.specs.declared.Table.{Table}
-use Rattle.segments.specs.Segments.{READ, RW, any_names, is_named, is_of_slot, list_in, list_of}
+use Rattle.segments.specs.Segments.{READ, RW, any_names, is_named, is_of_slot, list_in}
 use Rattle.lookup.proofs.LookupLaws.{next_segment, no_segment}
 use Rattle.lookup.specs.Lookup.{named_slots}
 
@@ -29,17 +28,17 @@ not_marked l k i h b = rw (ne_eqb i k (λ e. omega (arith, e)))
 
 -- ---- segments one after the other
 
-pub marked_next : (i : ℕ) (g : Segments) (k : ℕ) (d : Segment) (b : Bool) → k < length (list_of g)
-    → (any_names i (drop k (list_of g)) || b) ≡ (any_names i (drop (k + 1) (list_of g)) || (is_of_slot i (get_or g.items k d).right || b))
+pub marked_next : (i : ℕ) (l : List Segment) (k : ℕ) (d : Segment) (b : Bool) → k < length l
+    → (any_names i (drop k l) || b) ≡ (any_names i (drop (k + 1) l) || (is_of_slot i (get_or l k d).right || b))
 unfolding any_names
-marked_next i g k d b h =
-    let here = is_of_slot i (get_or g.items k d).right in
-    let behind = any_names i (drop (k + 1) (list_of g)) in
-    rw (next_segment g k d h) (ap (λ (x : Bool). x || b) (or_comm here behind) ∙ or_assoc behind here b)
+marked_next i l k d b h =
+    let here = is_of_slot i (get_or l k d).right in
+    let behind = any_names i (drop (k + 1) l) in
+    rw (next_segment l k d h) (ap (λ (x : Bool). x || b) (or_comm here behind) ∙ or_assoc behind here b)
 
-pub marked_all : (i : ℕ) (g : Segments) (k : ℕ) (b : Bool) → length (list_of g) ≤ k → (any_names i (drop k (list_of g)) || b) ≡ b
+pub marked_all : (i : ℕ) (l : List Segment) (k : ℕ) (b : Bool) → length l ≤ k → (any_names i (drop k l) || b) ≡ b
 unfolding any_names
-marked_all i g k b h = rw (no_segment g k h)
+marked_all i l k b h = rw (no_segment l k h)
 
 -- ---- the eight places
 

@@ -50,17 +50,13 @@ fn hits(s: Segment, first: u64, last: u64, c: Condition) -> bool
     satisfied(c, right)
 }
 
-fn any_meets(g: Segments, first: u64, last: u64, c: Condition) -> bool
-    ensures { result ≡ any_meets (satisfies c) first last (list_of g) }
+fn any_meets(g: &Segments, first: u64, last: u64, c: Condition) -> bool
+    ensures { result ≡ any_meets (satisfies c) first last (list_of g.now) }
 {
-    let n = segments::used_entries(g.count);
-    let mut k: usize = 0;
-    while k < n {
-        let s = g.items[k];
-        if hits(s, first, last, c) {
+    for s in g.used() {
+        if hits(*s, first, last, c) {
             return true;
         }
-        k += 1;
     }
     false
 }
@@ -69,16 +65,13 @@ fn any_meets(g: Segments, first: u64, last: u64, c: Condition) -> bool
 pub fn meets(t: Table, s: Span, c: Condition) -> bool
     ensures { result ≡ table_meets (satisfies c) s.iomode s.first s.last t }
 {
-    let iomode = s.iomode;
-    let mut i: u32 = 0;
-    while i < 2 {
-        if segments::acts_on(iomode, i) {
+    for i in 0..2 {
+        if segments::acts_on(s.iomode, i) {
             let g = segments::list_in(t, i);
-            if any_meets(g, s.first, s.last, c) {
+            if any_meets(&g, s.first, s.last, c) {
                 return true;
             }
         }
-        i += 1;
     }
     false
 }

@@ -3,3 +3,4 @@ pub mod SameLaws
 pub mod ZeroLaws
 pub mod BytesAtLaws
 pub mod StoredLaws
+pub mod WidthLaws

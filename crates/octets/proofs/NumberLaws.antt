@@ -4,11 +4,10 @@ use Prim.Native.Nat.{ℕ, zero, suc, ◌+◌, ◌-◌, ◌*◌, ◌/◌, ◌%◌
 use mathlib.Core.Path.{◌≡◌, refl, sym, ap, ◌∙◌}
 use mathlib.Core.List.{List, [], ◌∷◌, ◌++◌}
 use native.Mathlib.Nat.{pow-suc, add-mul, mul_assoc, mul_comm, mul-le-mul_right, div-add-mod', div-lt_iff_lt-mul}
-use native.Mathlib.Numerals.{add-one}
 use native.Mathlib.Omega.{arith}
 use borrow.Author.Tests.{le-leb, lt-leb}
-use lib.ListN.{length, take, drop, get_or, drop_of_length-le, length-append, length-take, length-drop, take-append-drop}
-use lib.Seq.{drop_at, drop-cons, take-add, take_all, take-nil, take-suc, take-take, drop-drop, get_or-drop}
+use lib.ListN.{length, take, drop, get_or, length-append, length-take, length-drop, take-append-drop}
+use lib.Seq.{drop_at, drop-cons, take-add, take_all, take-suc, take-take, drop-drop, get_or-drop}
 use Rattle.base.specs.Answer.{pick}
 use Rattle.octets.specs.Numbers.{AllBytes, be_at, bytes_from, le_at, be_from, be_value, be_bytes, le_value, le_bytes}
 
@@ -31,25 +30,9 @@ bytes_in_run j k s at p h r =
     let f : bytes_from k s at ≡ bytes_from p s at ++ bytes_from (k - p) s (at + p) = ap (λ (m : ℕ). bytes_from m s at) e ∙ two_parts p (k - p) s at in
     rw (f, drop_at (bytes_from p s at) (bytes_from (k - p) s (at + p)) p n) (take-take j (k - p) (drop (at + p) s) (omega arith))
 
--- the last byte apart
-pub last_of_run : (i : ℕ) (s : List ℕ) (at : ℕ) → at + i < length s → bytes_from (i + 1) s at ≡ bytes_from i s at ++ (get_or s (at + i) 0 ∷ [])
-last_of_run i s at h =
-    let k : i < length (drop at s) = simp length-drop (omega arith) in
-    rw (add-one i, take-suc (drop at s) i 0 k, get_or-drop)
-
 -- the k bytes from an offset, and what is after them
 pub run_first : (k : ℕ) (s : List ℕ) (at : ℕ) → drop at s ≡ bytes_from k s at ++ drop (at + k) s
 run_first k s at = sym (take-append-drop k (drop at s)) ∙ ap (λ (l : List ℕ). bytes_from k s at ++ l) (drop-drop k at s)
-
--- bytes that run out
-pub none_left : (k : ℕ) (s : List ℕ) (at : ℕ) → length s ≤ at → bytes_from k s at ≡ []
-none_left k s at h = rw (drop_of_length-le s h) (take-nil k)
-
-pub fewer_left : (k : ℕ) (s : List ℕ) (at : ℕ) → length s - at ≤ k → bytes_from (length s - at) s at ≡ bytes_from k s at
-fewer_left k s at h =
-    let a : length (drop at s) ≤ length s - at = simp length-drop (omega arith) in
-    let b : length (drop at s) ≤ k = simp length-drop (omega arith) in
-    take_all (length s - at) (drop at s) a ∙ sym (take_all k (drop at s) b)
 
 -- the byte i bytes on, and the k after it
 next_byte : (i k : ℕ) (s : List ℕ) (at : ℕ) → at + i < length s → bytes_from (suc k) s (at + i) ≡ get_or s (at + i) 0 ∷ bytes_from k s (at + suc i)
@@ -118,15 +101,6 @@ be_from_append v (x ∷ xs) ys = be_from_append (v * 256 + x) xs ys
 pub be_append : (xs ys : List ℕ) → be_value (xs ++ ys) ≡ be_value xs * 256 ^ length ys + be_value ys
 unfolding be_value
 be_append xs ys = be_from_append 0 xs ys ∙ be_from_lem (be_from 0 xs) ys
-
-pub le_append : (xs ys : List ℕ) → le_value (xs ++ ys) ≡ le_value ys * 256 ^ length xs + le_value xs
-unfolding le_value
-le_append [] ys = omega arith
-le_append (x ∷ xs) ys =
-    let P = 256 ^ length xs in
-    let e : (le_value ys * P + le_value xs) * 256 ≡ le_value ys * P * 256 + le_value xs * 256 = add-mul (le_value ys * P) (le_value xs) 256 in
-    let f : le_value ys * 256 ^ suc (length xs) ≡ le_value ys * P * 256 = ap (λ (n : ℕ). le_value ys * n) (pow-suc 256 (length xs)) ∙ sym (mul_assoc (le_value ys) P 256) in
-    rw (le_append xs ys) (omega (arith, e, f))
 
 -- ---- what is written is read back, and the other way round
 

@@ -1,14 +1,19 @@
 -- Laws of equal runs of bytes: the test says that two lists are equal, and goes by lengths, then block by block.
-use Prim.Native.Nat.{ℕ, ◌+◌, ◌<◌}
+use Prim.Native.Nat.{ℕ, ◌+◌, ◌*◌, ◌/◌, ◌<◌}
+use Rattle.std.specs.Simd.{first_chunks}
 use mathlib.Core.Path.{◌≡◌, refl, sym, ap, ap₂, ◌∙◌}
 use mathlib.Core.Bool.{Bool, true, false, ◌&&◌, and_assoc, and-true, false≢true}
 use mathlib.Core.List.{List, [], ◌∷◌, ◌++◌}
 use borrow.Author.Tests.{eqb-true, eq-eqb}
+use lib.Seq.{take-suc}
+use native.Mathlib.Numerals.{add-one}
+use Rattle.octets.proofs.ZeroLaws.{block_at, length_chunks}
 use lib.Dec.{eqb}
-use lib.ListN.{length, drop, get_or, length-drop, length-take}
+use lib.ListN.{length, take, drop, get_or, length-drop, length-take}
+use native.Mathlib.Nat.{add-mul}
 use native.Mathlib.Omega.{arith}
 use Rattle.octets.specs.Numbers.{bytes_from, same_bytes}
-use Rattle.octets.proofs.NumberLaws.{last_of_run, run_first}
+use Rattle.octets.proofs.NumberLaws.{run_first}
 
 pub same_true : (xs ys : List ℕ) → same_bytes xs ys ≡ true → xs ≡ ys
 unfolding same_bytes
@@ -44,18 +49,38 @@ pub same_none : same_bytes [] [] ≡ true
 unfolding same_bytes
 same_none = refl
 
-pub one_more : (s t : List ℕ) (at i : ℕ) → at + i < length s → at + i < length t
-    → same_bytes (bytes_from (i + 1) s at) (bytes_from (i + 1) t at)
-    ≡ (same_bytes (bytes_from i s at) (bytes_from i t at) && eqb (get_or s (at + i) 0) (get_or t (at + i) 0))
-one_more s t at i h k =
-    let e : length (bytes_from i s at) ≡ length (bytes_from i t at) = simp (length-take, length-drop) (omega arith) in
-    rw (last_of_run i s at h, last_of_run i t at k, same_append (bytes_from i s at) (bytes_from i t at) _ _ e, same_one)
+pub one_more : (s t : List ℕ) (i : ℕ) → i < length s → i < length t
+    → same_bytes (take (i + 1) s) (take (i + 1) t) ≡ (same_bytes (take i s) (take i t) && eqb (get_or s i 0) (get_or t i 0))
+one_more s t i h k =
+    let e : length (take i s) ≡ length (take i t) = simp length-take (omega arith) in
+    rw (add-one i, take-suc s i 0 h, take-suc t i 0 k, same_append (take i s) (take i t) _ _ e, same_one)
 
-pub block_first : (n at : ℕ) (s t : List ℕ) → length s ≡ length t
-    → same_bytes (drop at s) (drop at t) ≡ (same_bytes (bytes_from n s at) (bytes_from n t at) && same_bytes (drop (at + n) s) (drop (at + n) t))
-block_first n at s t h =
-    ap₂ same_bytes (run_first n s at) (run_first n t at)
-    ∙ same_append (bytes_from n s at) (bytes_from n t at) (drop (at + n) s) (drop (at + n) t) (same_long n at s t h)
+-- what a loop over two runs needs
+pub ruleset run_passed = (same_none, one_more)
+
+-- a block, and what is after it
+pub block_first : (block size : ℕ) (s t : List ℕ) → length s ≡ length t
+    → same_bytes (drop (block * size) s) (drop (block * size) t)
+    ≡ (same_bytes (bytes_from size s (block * size)) (bytes_from size t (block * size)) && same_bytes (drop ((block + 1) * size) s) (drop ((block + 1) * size) t))
+block_first block size s t h =
+    let at = block * size in
+    let e : (block + 1) * size ≡ at + size = omega (arith, add-mul block 1 size) in
+    rw e
+    (ap₂ same_bytes (run_first size s at) (run_first size t at)
+    ∙ same_append (bytes_from size s at) (bytes_from size t at) (drop (at + size) s) (drop (at + size) t) (same_long size at s t h))
+
+-- the blocks of two lists in pairs
+module _ (size : ℕ) (s t : List ℕ) (i : ℕ) (b c : List ℕ) where
+  abbrev blocks : List ℕ → List (List ℕ)
+  blocks l = first_chunks size (length l / size) l
+
+  pub pair_first : length s ≡ length t
+      → (i < length (blocks s)) × (i < length (blocks t)) × ((d : List ℕ) → b ≡ get_or (blocks s) i d) × ((d : List ℕ) → c ≡ get_or (blocks t) i d)
+      → same_bytes (drop (i * size) s) (drop (i * size) t) ≡ (same_bytes b c && same_bytes (drop ((i + 1) * size) s) (drop ((i + 1) * size) t))
+  pair_first e w =
+      let h : i < length s / size = omega (arith, w.0, length_chunks size (length s / size) s) in
+      let k : i < length t / size = omega (arith, w.1, length_chunks size (length t / size) t) in
+      rw (w.2 [], w.3 [], block_at size (length s / size) i s h, block_at size (length t / size) i t k) (block_first i size s t e)
 
 pub same_refl : (b : List ℕ) → same_bytes b b ≡ true
 unfolding same_bytes

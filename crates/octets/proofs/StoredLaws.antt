@@ -1,50 +1,17 @@
 -- Laws of bytes stored into a buffer: a number is stored from its last byte to its first, or the other way round, and runs of stores join.
-use Prim.Native.Nat.{ℕ, zero, suc, ◌+◌, ◌-◌, ◌/◌, ◌%◌, ◌≤◌, ◌<◌}
+use Prim.Native.Nat.{ℕ, ◌+◌, ◌≤◌, ◌<◌}
 use mathlib.Core.Path.{◌≡◌, refl, sym, ap, ◌∙◌}
 use mathlib.Core.Bool.{Bool, true, false}
-use mathlib.Core.List.{List, [], ◌∷◌, ◌++◌}
+use mathlib.Core.List.{List, [], ◌∷◌, ◌++◌, append_assoc}
 use native.Mathlib.Omega.{arith}
 use borrow.Author.Tests.{le-leb, lt-leb}
 use lib.Dec.{leb}
-use lib.ListN.{length, take, get_or, set, length-append, length-take}
-use lib.Seq.{sets, length-sets, take-suc}
+use lib.ListN.{length, replicate, set, length-append, length-replicate, replicate-append-replicate}
+use lib.Seq.{drop-drop, sets, sets-eq, length-sets}
+use borrow.Rule.Slice.PartMut.{put_mid}
 use Rattle.base.specs.Answer.{pick}
-use Rattle.base.proofs.ListLaws.{sets_append, sets_set, sets_sets}
+use Rattle.base.proofs.ListLaws.{sets_append, sets_sets}
 use Rattle.octets.specs.Buffers.{stored}
-use Rattle.octets.specs.Numbers.{be_bytes, le_bytes}
-use Rattle.octets.proofs.NumberLaws.{length_be}
-
--- a number's last byte first
-pub last_byte_first : (l : List ℕ) (at i v : ℕ) → 0 < i
-    → sets l at (be_bytes i v) ≡ sets (set l (at + (i - 1)) (v % 256)) at (be_bytes (i - 1) (v / 256))
-unfolding be_bytes
-last_byte_first l at zero v h = absurd (omega arith)
-last_byte_first l at (suc k) v h =
-    let bs = be_bytes k (v / 256) in
-    let e : suc k - 1 ≡ k = omega arith in
-    let n : at + length bs ≤ at + k = omega (arith, length_be k (v / 256)) in
-    rw e
-    (sets_append l at bs (v % 256 ∷ [])
-    ∙ ap (λ (m : ℕ). set (sets l at bs) (at + m) (v % 256)) (length_be k (v / 256))
-    ∙ sym (sets_set l at bs (at + k) (v % 256) n))
-
--- a little-endian number's next byte
-pub low_byte_first : (l : List ℕ) (at k i v : ℕ) → i < k
-    → sets l (at + i) (le_bytes (k - i) v) ≡ sets (set l (at + i) (v % 256)) (at + (i + 1)) (le_bytes (k - (i + 1)) (v / 256))
-unfolding le_bytes
-low_byte_first l at k i v h =
-    let e : k - i ≡ suc (k - (i + 1)) = omega arith in
-    let f : at + (i + 1) ≡ suc (at + i) = omega arith in
-    rw (e, f)
-
--- one more byte of a run
-pub next_stored : (l : List ℕ) (at : ℕ) (bs : List ℕ) (i : ℕ) → i < length bs
-    → sets l at (take (suc i) bs) ≡ set (sets l at (take i bs)) (at + i) (get_or bs i 0)
-next_stored l at bs i h =
-    let n : length (take i bs) ≡ i = simp length-take (omega arith) in
-    ap (sets l at) (take-suc bs i 0 h)
-    ∙ sets_append l at (take i bs) (get_or bs i 0 ∷ [])
-    ∙ ap (λ (m : ℕ). set (sets l at (take i bs)) (at + m) (get_or bs i 0)) n
 
 pub fits_stored : (l : List ℕ) (at : ℕ) (bs : List ℕ) → at + length bs ≤ length l → stored l at bs ≡ sets l at bs
 unfolding stored pick
@@ -53,6 +20,28 @@ fits_stored l at bs h = rw (le-leb _ _ h)
 pub unfit_stored : (l : List ℕ) (at : ℕ) (bs : List ℕ) → length l < at + length bs → stored l at bs ≡ l
 unfolding stored pick
 unfit_stored l at bs h = rw (lt-leb _ _ h)
+
+-- a part of the buffer that is written whole
+pub part_stored : (l : List ℕ) (at : ℕ) (bs : List ℕ) (k : ℕ) → k ≡ length bs → at + length bs ≤ length l → put_mid at k l bs ≡ stored l at bs
+part_stored l at bs k e h = rw (fits_stored l at bs h, sets-eq bs l at h, e, drop-drop, append_assoc)
+
+-- ---- zeros
+
+pub unfit_zeros : (l : List ℕ) (at n : ℕ) → length l < at + n → stored l at (replicate n 0) ≡ l
+unfit_zeros l at n h = unfit_stored l at (replicate n 0) (omega (arith, length-replicate {A = ℕ} n 0))
+
+pub fits_zeros : (l : List ℕ) (at n : ℕ) → at + n ≤ length l → stored l at (replicate n 0) ≡ sets l at (replicate n 0)
+fits_zeros l at n h = fits_stored l at (replicate n 0) (omega (arith, length-replicate {A = ℕ} n 0))
+
+-- one zero more
+pub next_zero : (l : List ℕ) (at i : ℕ) → sets l at (replicate (i + 1) 0) ≡ set (sets l at (replicate i 0)) (at + i) 0
+next_zero l at i =
+    ap (sets l at) (sym (replicate-append-replicate i 1 0))
+    ∙ sets_append l at (replicate i 0) (0 ∷ [])
+    ∙ ap (λ (m : ℕ). set (sets l at (replicate i 0)) (at + m) 0) (length-replicate {A = ℕ} i 0)
+
+-- what zeros in a loop need
+pub ruleset zeros_stored = (unfit_zeros, fits_zeros, next_zero)
 
 pub length_stored : (l : List ℕ) (at : ℕ) (bs : List ℕ) → length (stored l at bs) ≡ length l
 unfolding stored pick

@@ -1,33 +1,32 @@
 // Whether two runs of bytes are equal, in blocks: a loop with no exit inside goes many bytes at a time.
-ghost use Rattle.std.specs.Prelude.{◌≡◌, ◌+◌, ◌≤◌, length};
-ghost use Rattle.octets.specs.Numbers.{bytes_from, same_bytes};
+ghost use Rattle.std.specs.Prelude.{◌≡◌, length};
+ghost use Rattle.octets.specs.Numbers.{same_bytes};
 
-fn same_run(s: &[u8], t: &[u8], at: usize, n: usize) -> bool
-    requires { (at + n ≤ length s.now) × (at + n ≤ length t.now) }
-    ensures { result ≡ same_bytes (bytes_from n s.now at) (bytes_from n t.now at) }
+#[tactic(auto, using(crate::proofs::SameLaws::run_passed))]
+fn same_run(s: &[u8], t: &[u8]) -> bool
+    requires { length s.now ≡ length t.now }
+    ensures { result ≡ same_bytes s.now t.now }
 {
     let mut z = true;
-    let mut i: usize = 0;
-    while i < n {
-        z = z & (s[at + i] == t[at + i]);
-        i += 1;
+    for (x, y) in s.iter().zip(t) {
+        z = z & (*x == *y);
     }
     z
 }
 
+#[tactic(auto, using(crate::proofs::SameLaws::same_lengths))]
 pub fn same(s: &[u8], t: &[u8]) -> bool
     ensures { result ≡ same_bytes s.now t.now }
 {
-    let len = s.len();
-    if len != t.len() {
+    if s.len() != t.len() {
         return false;
     }
-    let mut p: usize = 0;
-    while 256 <= len - p {
-        if !same_run(s, t, p, 256) {
+    let (blocks, rest) = s.as_chunks::<256>();
+    let (others, other_rest) = t.as_chunks::<256>();
+    for (block, other) in blocks.iter().zip(others) {
+        if !same_run(block, other) {
             return false;
         }
-        p += 256;
     }
-    same_run(s, t, p, len - p)
+    same_run(rest, other_rest)
 }

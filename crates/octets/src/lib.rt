@@ -3,14 +3,10 @@
 
 mod compare;
 mod load;
-mod store_be;
-mod store_le;
-mod store_zeros;
+mod store;
 mod zero;
 
 pub use compare::same;
 pub use load::{be4, be8, le2, le4, le8};
-pub use store_be::{put_be4, put_be8, put_bytes};
-pub use store_le::{put_le2, put_le4};
-pub use store_zeros::put_zeros;
+pub use store::{put_be4, put_be8, put_bytes, put_le2, put_le4, put_zeros};
 pub use zero::all_zero;

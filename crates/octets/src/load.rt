@@ -1,80 +1,61 @@
 // Numbers of 2, 4 and 8 bytes at an offset of a slice; 0 where the bytes run out.
-ghost use Rattle.std.specs.Prelude.{◌≡◌};
-ghost use Rattle.octets.specs.Numbers.{be_at, le_at};
+ghost use Rattle.std.specs.Prelude.{◌≡◌, ◌+◌, ◌<◌, ◌≤◌, length, MatchOption};
+ghost use Rattle.octets.specs.Numbers.{be_at, bytes_from, le_at};
 
-use base::wide8;
+// The N bytes at an offset, where they are all there.
+fn bytes_at<const N: usize>(s: &[u8], at: usize) -> Option<&[u8; N]>
+    ensures { MatchOption result (length s.now < at + N)
+        (λ bytes. (at + N ≤ length s.now) × (bytes.now ≡ bytes_from N s.now at)) }
+{
+    s.get(at..)?.first_chunk()
+}
 
-// Written out, since it then compiles to one load and a byte swap.
+#[tactic(auto, using(crate::proofs::NumberLaws::be_short, crate::proofs::WidthLaws::be4_there))]
 pub fn be4(s: &[u8], at: usize) -> u32
     ensures { result ≡ be_at 4 s.now at }
 {
-    if s.len() < at {
-        return 0;
+    match bytes_at(s, at) {
+        Some(bytes) => u32::from_be_bytes(*bytes),
+        None => 0,
     }
-    if s.len() - at < 4 {
-        return 0;
-    }
-    let a = wide8(s[at]);
-    let b = wide8(s[at + 1]);
-    let c = wide8(s[at + 2]);
-    let d = wide8(s[at + 3]);
-    ((a * 256 + b) * 256 + c) * 256 + d
 }
 
+#[tactic(auto, using(crate::proofs::NumberLaws::be_short, crate::proofs::WidthLaws::be8_there))]
 pub fn be8(s: &[u8], at: usize) -> u64
     ensures { result ≡ be_at 8 s.now at }
 {
-    if s.len() < at {
-        return 0;
+    match bytes_at(s, at) {
+        Some(bytes) => u64::from_be_bytes(*bytes),
+        None => 0,
     }
-    if s.len() - at < 8 {
-        return 0;
-    }
-    let high = be4(s, at) as u64;
-    let low = be4(s, at + 4) as u64;
-    high * 4294967296 + low
 }
 
+#[tactic(auto, using(crate::proofs::NumberLaws::le_short, crate::proofs::WidthLaws::le2_there))]
 pub fn le2(s: &[u8], at: usize) -> u32
     ensures { result ≡ le_at 2 s.now at }
 {
-    if s.len() < at {
-        return 0;
+    match bytes_at(s, at) {
+        Some(bytes) => u32::from(u16::from_le_bytes(*bytes)),
+        None => 0,
     }
-    if s.len() - at < 2 {
-        return 0;
-    }
-    let a = wide8(s[at]);
-    let b = wide8(s[at + 1]);
-    b * 256 + a
 }
 
+#[tactic(auto, using(crate::proofs::NumberLaws::le_short, crate::proofs::WidthLaws::le4_there))]
 pub fn le4(s: &[u8], at: usize) -> u32
     ensures { result ≡ le_at 4 s.now at }
 {
-    if s.len() < at {
-        return 0;
+    match bytes_at(s, at) {
+        Some(bytes) => u32::from_le_bytes(*bytes),
+        None => 0,
     }
-    if s.len() - at < 4 {
-        return 0;
-    }
-    let a = wide8(s[at]);
-    let b = wide8(s[at + 1]);
-    let c = wide8(s[at + 2]);
-    let d = wide8(s[at + 3]);
-    ((d * 256 + c) * 256 + b) * 256 + a
 }
 
+#[tactic(auto, using(crate::proofs::NumberLaws::le_short, crate::proofs::WidthLaws::le8_there))]
 pub fn le8(s: &[u8], at: usize) -> u64
     ensures { result ≡ le_at 8 s.now at }
 {
-    if s.len() < at {
-        return 0;
+    match bytes_at(s, at) {
+        Some(bytes) => u64::from_le_bytes(*bytes),
+        None => 0,
     }
-    if s.len() - at < 8 {
-        return 0;
-    }
-    let low = le4(s, at) as u64;
-    let high = le4(s, at + 4) as u64;
-    low + high * 4294967296
 }

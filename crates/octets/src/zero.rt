@@ -1,34 +1,39 @@
 // Whether bytes are all zero, in blocks: a loop with no exit inside goes many bytes at a time.
-ghost use Rattle.std.specs.Prelude.{◌≡◌, ◌+◌, ◌≤◌, drop, length};
-ghost use Rattle.octets.specs.Numbers.{all_zero, bytes_from};
+ghost use Rattle.std.specs.Prelude.{◌≡◌, drop};
+ghost use Rattle.octets.specs.Numbers.{all_zero};
 
-fn zero_run(s: &[u8], at: usize, n: usize) -> bool
-    requires { at + n ≤ length s.now }
-    ensures { result ≡ all_zero (bytes_from n s.now at) }
+// An OR of all bytes has a bit where one of them has it.
+#[tactic(auto, using(crate::proofs::ZeroLaws::run_passed))]
+fn zero_run(s: &[u8]) -> bool
+    ensures { result ≡ all_zero s.now }
 {
-    let mut z = true;
-    let mut i: usize = 0;
-    while i < n {
-        z = z & (s[at + i] == 0);
-        i += 1;
+    let mut bits = 0;
+    for byte in s {
+        bits |= *byte;
     }
-    z
+    bits == 0
+}
+
+#[tactic(auto, using(crate::proofs::ZeroLaws::block_first, crate::proofs::ZeroLaws::block_at))]
+fn zeros(s: &[u8]) -> bool
+    ensures { result ≡ all_zero s.now }
+{
+    let (blocks, rest) = s.as_chunks::<256>();
+    for block in blocks {
+        if !zero_run(block) {
+            return false;
+        }
+    }
+    zero_run(rest)
 }
 
 // The bytes from an offset to the end.
+#[tactic(auto, using(crate::proofs::ZeroLaws::zero_past))]
 pub fn all_zero(s: &[u8], at: usize) -> bool
     ensures { result ≡ all_zero (drop at s.now) }
 {
-    let len = s.len();
-    if len < at {
-        return true;
+    match s.get(at..) {
+        Some(rest) => zeros(rest),
+        None => true,
     }
-    let mut p = at;
-    while 256 <= len - p {
-        if !zero_run(s, p, 256) {
-            return false;
-        }
-        p += 256;
-    }
-    zero_run(s, p, len - p)
 }

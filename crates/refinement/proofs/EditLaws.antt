@@ -13,7 +13,7 @@ use Rattle.segments.specs.declared.Segment.{Segment}
 use Rattle.segments.specs.declared.Segments.{Segments}
 use Rattle.segments.specs.Segments.{Mode, READ, RW, acts_on, in_entries}
 use Rattle.table.specs.declared.change.Change.{Change}
-use Rattle.table.specs.declared.change.Edited.{Edited}
+use Rattle.std.specs.Prelude.{Option, None, Some}
 use Rattle.model.proofs.Decode.{list_of_lem}
 use Rattle.segments.proofs.ScanLaws.{segments_ext}
 use Rattle.refinement.proofs.EditShows.{edit_scan}
@@ -23,8 +23,8 @@ use Rattle.model.specs.Model.{Model, Command, act, after_at, covers, segments_in
 
 -- ---- one iomode
 
-fitted : Segments → List Segment → Edited
-fitted g l = pick (leb (length l) 32) (record { segments = in_entries l; fits = true }) (record { segments = g; fits = false })
+fitted : List Segment → Option Segments
+fitted l = pick (leb (length l) 32) (Some (in_entries l)) None
 
 -- ---- both
 
@@ -52,22 +52,21 @@ module _ (N : ℕ) (M : Model) (o : Command) (c : Change) (rising : o.first ≤ 
     list_kept m e = segments_ext N _ _ (λ x k. agrees m x k ∙ rw e)
 
     edited_in_lem : (m : Mode) (b : Bool) → acts_on o.iomode m ≡ b
-        → edited_where b c o.first o.last (in_entries (segments_in N M m)) ≡ fitted (in_entries (segments_in N M m)) (segments_in N (act N o M) m)
+        → edited_where b c o.first o.last (in_entries (segments_in N M m)) ≡ fitted (segments_in N (act N o M) m)
     unfolding edited_in fitted
     edited_in_lem m true e =
-        ap (fitted (in_entries (segments_in N M m)))
+        ap fitted
         (ap (edited c o.first o.last) (list_of_lem (segments_in N M m)) ∙ list_edited m e)
     edited_in_lem m false e =
         rw (list_kept m e) (sym (pick_true (leb (length (segments_in N M m)) 32) _ _ (le-leb _ 32 (few m))))
 
-    both_fit_lem : (a b : Bool) (g h k l : Segments)
-        → both_fit (pick a (record { segments = k; fits = true }) (record { segments = g; fits = false }))
-        (pick b (record { segments = l; fits = true }) (record { segments = h; fits = false }))
+    both_fit_lem : (a b : Bool) (k l : Segments)
+        → both_fit (pick a (Some k) None) (pick b (Some l) None)
         ≡ pick (not a || not b) (refused 23) (accepted (record { read = k; rw = l }))
     unfolding pick
-    both_fit_lem true true g h k l = refl
-    both_fit_lem true false g h k l = refl
-    both_fit_lem false b g h k l = refl
+    both_fit_lem true true k l = refl
+    both_fit_lem true false k l = refl
+    both_fit_lem false b k l = refl
 
     -- 23 of the model is the table's
     pub edit_model : table_edited c o.iomode o.first o.last (table_of N M)
@@ -75,5 +74,5 @@ module _ (N : ℕ) (M : Model) (o : Command) (c : Change) (rising : o.first ≤ 
     unfolding table_edited table_of has_too_many fitted
     edit_model =
         (λ i. both_fit (edited_in_lem READ _ refl i) (edited_in_lem RW _ refl i))
-        ∙ (both_fit_lem (leb (length (segments_in N (act N o M) READ)) 32) (leb (length (segments_in N (act N o M) RW)) 32) _ _ _ _
+        ∙ (both_fit_lem (leb (length (segments_in N (act N o M) READ)) 32) (leb (length (segments_in N (act N o M) RW)) 32) _ _
         ∙ rw (too_many (length (segments_in N (act N o M) READ)), too_many (length (segments_in N (act N o M) RW))))

@@ -2,7 +2,7 @@
 use Prim.Native.Nat.{ℕ, ◌≤◌, min}
 use mathlib.Core.Path.{◌≡◌, refl, ap}
 use mathlib.Core.Bool.{Bool, true, false}
-use mathlib.Core.List.{List, []}
+use Rattle.std.specs.Prelude.{List, [], Some}
 use native.Mathlib.Omega.{arith}
 use borrow.Author.Tests.{le-leb}
 use lib.Dec.{eqb}
@@ -15,7 +15,7 @@ use Rattle.base.specs.declared.iomode.Iomode.{Iomode}
 use Rattle.base.specs.declared.iomode.Iomode.TheVariants.{Read, ReadWrite, Any}
 use Rattle.segments.specs.declared.Segments.{Segments}
 use Rattle.segments.specs.declared.Table.{Table}
-use Rattle.segments.specs.Segments.{Mode, READ, RW, acts_on, list_of, segments_for}
+use Rattle.segments.specs.Segments.{Mode, READ, RW, acts_on, in_entries, list_of, segments_for}
 use Rattle.lookup.specs.declared.range.Condition.TheVariants.{Held}
 use Rattle.lookup.specs.Lookup.{satisfies, table_meets}
 use Rattle.table.specs.declared.change.Change.{Change}
@@ -36,14 +36,14 @@ use Rattle.events.specs.declared.decision.Update.TheVariants as update
 -- ---- the edit
 
 module _ (c : Change) (z : KeepsNone c) where
-  edit_fits : (b : Bool) (g : Segments) → g.count ≤ 32 → Each (EndsBy last_byte) (list_of g) → (edited_where b c 0 last_byte g).fits ≡ true
+  edit_fits : (b : Bool) (g : Segments) → g.count ≤ 32 → Each (EndsBy last_byte) (list_of g) → (h : Segments) × (edited_where b c 0 last_byte g ≡ Some h)
   unfolding edited_in pick
-  edit_fits false g few h = refl
+  edit_fits false g few h = (g, refl)
   edit_fits true g few h =
       let k : length (edited c 0 last_byte (list_of g)) ≤ length (list_of g) = whole_needs_no_more c z last_byte (list_of g) (ends_below last_byte (list_of g) h) in
       let n : length (list_of g) ≡ min g.count (length g.items) = length-take g.count g.items in
       let m : length (edited c 0 last_byte (list_of g)) ≤ 32 = omega arith in
-      rw (le-leb (length (edited c 0 last_byte (list_of g))) 32 m) refl
+      (in_entries (edited c 0 last_byte (list_of g)), rw (le-leb (length (edited c 0 last_byte (list_of g))) 32 m) refl)
 
   module _ (t : Table) (store : List ℕ) (was-sound : sound t store ≡ true) (read : Each (EndsBy last_byte) (list_of t.read)) (rw_list : Each (EndsBy last_byte) (list_of t.rw)) where
     -- the step that makes this change
@@ -51,7 +51,9 @@ module _ (c : Change) (z : KeepsNone c) where
     unfolding update_result table_edited stage pick
     change_accepted p b i e =
         let few : (m : Mode) → (segments_for t m).count ≤ 32 = λ m. (listed t store (sounds t store was-sound) m).few in
-        rw (e, edit_fits (acts_on i READ) t.read (few READ) read, edit_fits (acts_on i RW) t.rw (few RW) rw_list) refl
+        let r = edit_fits (acts_on i READ) t.read (few READ) read in
+        let w = edit_fits (acts_on i RW) t.rw (few RW) rw_list in
+        rw (e, r.1, w.1) refl
 
 -- ---- the three events
 

@@ -4,17 +4,18 @@ use mathlib.Core.Path.{◌≡◌, refl, ap}
 use mathlib.Core.List.{List, [], ◌∷◌, ◌++◌}
 use mathlib.Core.Bool.{Bool, true, ◌&&◌}
 use native.Mathlib.Omega.{arith}
-use borrow.Author.Tests.{leb-true}
+use native.Mathlib.Numerals.{add-one}
+use borrow.Author.Tests.{eq-eqb, leb-true}
 use lib.Dec.{leb}
-use lib.ListN.{length, take, drop, get_or}
+use lib.ListN.{length, take, drop, get_or, drop_of_length-le}
+use lib.Seq.{drop-cons}
 use Rattle.base.specs.Answer.{accepted, given}
 use Rattle.base.specs.Ranges.{range_last}
-use Rattle.base.proofs.ListLaws.{taken_next}
 use Rattle.base.proofs.AnswerLaws.{both, given_inv, pick_accepted}
 use Rattle.octets.specs.Numbers.{be_at}
 use Rattle.report.specs.Reports.{error_fits}
 use Rattle.report.specs.declared.ReportHead.{ReportHead}
-use Rattle.report.specs.Writing.{all_fit, counts, ErrorEntry, errors_bytes, head_bytes, checked_reports, checked_report, entry_here, entries_at, reports_bytes}
+use Rattle.report.specs.Writing.{all_fit, counts, ErrorEntry, errors_bytes, head_bytes, checked_reports, checked_report, entry_here, entries_at, reports_bytes, stateids_whole}
 
 -- what is in no entry of an array
 abbrev pub no_head : ReportHead
@@ -22,14 +23,23 @@ no_head = record { offset = 0; length = 0; stateid = []; errors = 0 }
 
 -- ---- one head after the other
 
-pub counts_next : (hs : List ReportHead) (i m : ℕ) → i < length hs → 0 < m
-    → counts (take m (drop i hs)) ≡ (get_or hs i no_head).errors + counts (take (m - 1) (drop (i + 1) hs))
+pub counts_next : (hs : List ReportHead) (i : ℕ) → i < length hs
+    → counts (drop i hs) ≡ (get_or hs i no_head).errors + counts (drop (i + 1) hs)
 unfolding counts
-counts_next hs i m h k = rw (taken_next hs no_head i m h k)
+counts_next hs i h = rw (add-one i, drop-cons hs i no_head h)
 
-pub counts_none : (hs : List ReportHead) (i m : ℕ) → m ≡ 0 → counts (take m (drop i hs)) ≡ 0
+pub counts_none : (hs : List ReportHead) (i : ℕ) → length hs ≤ i → counts (drop i hs) ≡ 0
 unfolding counts
-counts_none hs i m h = rw h
+counts_none hs i h = rw (drop_of_length-le hs h)
+
+pub whole_next : (hs : List ReportHead) (i : ℕ) → i < length hs → length (get_or hs i no_head).stateid ≡ 16
+    → stateids_whole (drop i hs) ≡ stateids_whole (drop (i + 1) hs)
+unfolding stateids_whole
+whole_next hs i h e = rw (add-one i, drop-cons hs i no_head h, eq-eqb (length (get_or hs i no_head).stateid) 16 e)
+
+pub whole_none : (hs : List ReportHead) (i : ℕ) → length hs ≤ i → stateids_whole (drop i hs) ≡ true
+unfolding stateids_whole
+whole_none hs i h = rw (drop_of_length-le hs h)
 
 -- ---- one entry after the other
 
@@ -75,31 +85,33 @@ unfolding all_fit entries_at
 fits_none n s at h = rw h
 
 -- the heads left, and the entries that they use
-pub checked_next : (hs : List ReportHead) (i m : ℕ) (s : List ℕ) (at : ℕ) → i < length hs → 0 < m
-    → checked_reports (take m (drop i hs)) (entries_at (counts (take m (drop i hs))) s at)
+pub checked_next : (hs : List ReportHead) (i : ℕ) (s : List ℕ) (at : ℕ) → i < length hs
+    → checked_reports (drop i hs) (entries_at (counts (drop i hs)) s at)
     ≡ given (checked_report (get_or hs i no_head) (entries_at (get_or hs i no_head).errors s at))
-    (λ u. checked_reports (take (m - 1) (drop (i + 1) hs)) (entries_at (counts (take (m - 1) (drop (i + 1) hs))) s (at + 24 * (get_or hs i no_head).errors)))
+    (λ u. checked_reports (drop (i + 1) hs) (entries_at (counts (drop (i + 1) hs)) s (at + 24 * (get_or hs i no_head).errors)))
 unfolding checked_reports counts
-checked_next hs i m s at h n =
-    let c = counts (take (m - 1) (drop (i + 1) hs)) in
-    rw (taken_next hs no_head i m h n, take_entries (get_or hs i no_head).errors c s at, drop_entries (get_or hs i no_head).errors c s at)
+checked_next hs i s at h =
+    let n = (get_or hs i no_head).errors in
+    let c = counts (drop (suc i) hs) in
+    rw (add-one i, drop-cons hs i no_head h, take_entries n c s at, drop_entries n c s at)
 
-pub checked_none : (hs : List ReportHead) (i m : ℕ) (es : List ErrorEntry) → m ≡ 0 → checked_reports (take m (drop i hs)) es ≡ accepted tt
+pub checked_none : (hs : List ReportHead) (i : ℕ) (es : List ErrorEntry) → length hs ≤ i → checked_reports (drop i hs) es ≡ accepted tt
 unfolding checked_reports
-checked_none hs i m es h = rw h
+checked_none hs i es h = rw (drop_of_length-le hs h)
 
-pub reports_next : (hs : List ReportHead) (i m : ℕ) (s : List ℕ) (at : ℕ) → i < length hs → 0 < m
-    → reports_bytes (take m (drop i hs)) (entries_at (counts (take m (drop i hs))) s at)
+pub reports_next : (hs : List ReportHead) (i : ℕ) (s : List ℕ) (at : ℕ) → i < length hs
+    → reports_bytes (drop i hs) (entries_at (counts (drop i hs)) s at)
     ≡ head_bytes (get_or hs i no_head) ++ (errors_bytes (entries_at (get_or hs i no_head).errors s at)
-    ++ reports_bytes (take (m - 1) (drop (i + 1) hs)) (entries_at (counts (take (m - 1) (drop (i + 1) hs))) s (at + 24 * (get_or hs i no_head).errors)))
+    ++ reports_bytes (drop (i + 1) hs) (entries_at (counts (drop (i + 1) hs)) s (at + 24 * (get_or hs i no_head).errors)))
 unfolding reports_bytes counts
-reports_next hs i m s at h n =
-    let c = counts (take (m - 1) (drop (i + 1) hs)) in
-    rw (taken_next hs no_head i m h n, take_entries (get_or hs i no_head).errors c s at, drop_entries (get_or hs i no_head).errors c s at)
+reports_next hs i s at h =
+    let n = (get_or hs i no_head).errors in
+    let c = counts (drop (suc i) hs) in
+    rw (add-one i, drop-cons hs i no_head h, take_entries n c s at, drop_entries n c s at)
 
-pub reports_none : (hs : List ReportHead) (i m : ℕ) (es : List ErrorEntry) → m ≡ 0 → reports_bytes (take m (drop i hs)) es ≡ []
+pub reports_none : (hs : List ReportHead) (i : ℕ) (es : List ErrorEntry) → length hs ≤ i → reports_bytes (drop i hs) es ≡ []
 unfolding reports_bytes
-reports_none hs i m es h = rw h
+reports_none hs i es h = rw (drop_of_length-le hs h)
 
 -- ---- what an allowed report says
 

@@ -8,7 +8,7 @@ use lib.ListN.{length, set, length-map, length-take, length-drop}
 use lib.Seq.{append_snoc}
 use Rattle.base.specs.Answer.{Answer, accepted, refused, given, pick}
 use Rattle.base.specs.Lists.{length_of, members_in}
-use Rattle.base.proofs.AnswerLaws.{given_inv, same_answer}
+use Rattle.base.proofs.AnswerLaws.{given_refused}
 use Rattle.base.proofs.ListLaws.{padded_next}
 use Rattle.octets.specs.Numbers.{bytes_from}
 use Rattle.octets.proofs.NumberLaws.{length_bytes}
@@ -75,6 +75,10 @@ pub arrays_done : (done : List Report) (m : ℕ) (s : List ℕ) (at : ℕ) → m
 unfolding arrays_from
 arrays_done done m s at h = rw (none_then report_at m s at _ h, append-nil done)
 
+pub count_no_arrays : (s : List ℕ) (at n : ℕ) → count_at 0 8 s at ≡ fault n → arrays_from [] (reports_at s at) ≡ fault n
+unfolding arrays_from reports_at then
+count_no_arrays s at n e = rw e
+
 pub arrays_no : (x : Parsed (List Report)) (n : ℕ) → arrays_from [] x ≡ fault n → x ≡ fault n
 unfolding arrays_from then
 arrays_no (ok rs p) n h = let z : ◌≡◌ {A = ℕ} 0 1 = cc in absurd (omega arith)
@@ -101,6 +105,14 @@ arrays_ok (ok rs q) n hs ps p h =
 arrays_ok (fault k) n hs ps p h = let z : ◌≡◌ {A = ℕ} 0 1 = cc in absurd (omega arith)
 
 -- ---- the whole answer, by what the body is
+
+pub length_no : (b : Answer (List Report)) (n : ℕ) → b ≡ refused n → refused n ≡ length_of b
+unfolding length_of given
+length_no b n e = rw e
+
+pub length_refused : {A : Type 0} (a : Answer (List A)) (n : ℕ) → refused n ≡ length_of a → a ≡ refused n
+unfolding length_of
+length_refused a n e = given_refused a _ n (sym e)
 
 pub answer_refused : (b : Answer (List Report)) (n : ℕ) (a : Answer ℕ) (hs : List ReportHead) (ps : List ℕ) → b ≡ refused n
     → (a ≡ refused n) × (hs ≡ heads_of []) × (ps ≡ offsets_of [])
@@ -172,11 +184,6 @@ statistics_of_refused s n e = rw e
 pub statistics_of : (s : List ℕ) (r : LayoutReturn) → return_body s ≡ accepted r → statistics_body s ≡ accepted r.statistics
 unfolding statistics_body given
 statistics_of s r e = rw e
-
--- both halves where one is accepted
-pub return_of_reports : (s : List ℕ) (rs : List Report) → report_body s ≡ accepted rs → (r : LayoutReturn) × (return_body s ≡ accepted r) × (r.reports ≡ rs)
-unfolding report_body
-return_of_reports s rs e = let a = given_inv _ _ _ e in (a.value, a.first, same_answer a.rest)
 
 -- ---- an accepted report has a stateid of 16 bytes
 

@@ -60,7 +60,3 @@ module _ (o : Outgoing) (es : List ErrorEntry) (room : ℕ) (h : o.statistic_cou
   return_of_refused n z e =
       let a = given_refused (checked_statistics (sent o)) _ n (sym (encoded_few o.statistic_count o.statistics h) ∙ e) in
       rw (return_by_body o es room h, a)
-
-pub length_refused : (a : Answer (List ℕ)) (n : ℕ) → length_of a ≡ refused n → a ≡ refused n
-unfolding length_of
-length_refused a n e = given_refused a length n e

@@ -1,85 +1,45 @@
 // One error, and a run of errors.
 ghost use Rattle.std.specs.Prelude.{◌≡◌};
-ghost use Rattle.base.specs.Refusals.{fault_number};
-ghost use Rattle.xdr.specs.Parsed.{end_of, fault_in, many_at};
+ghost use Rattle.xdr.specs.Parsed.{end_of, many_at};
+ghost use Rattle.xdr.specs.Answers.{parsed_of, parsed_of_end};
 ghost use Rattle.report.specs.Reports.{error_fits, error_at};
-ghost use Rattle.report.specs.Answers.{parsed_of_error};
-ghost use Rattle.xdr.specs.Answers.{parsed_of_end};
 
 use crate::ErrorItem;
 use base::{DEVICE_ID_SIZE, Fault};
-use xdr::{Cursor, ReadEnd, ReadPart, ReadU32};
-
-#[derive(Clone, Copy)]
-pub enum ReadError {
-    Value(ErrorItem, Cursor),
-    Refused(Fault),
-}
+use xdr::{Cursor, Read};
 
 #[tactic(auto, unfolding(crate::specs::Reports::error_fits))]
 pub fn error_fits(status: u32, operation: u32) -> bool
     ensures { result ≡ error_fits status operation }
 {
-    if status == 0 {
-        return false;
-    }
-    match operation {
-        5 => true,
-        25 => true,
-        38 => true,
-        _ => false,
-    }
+    status != 0 && matches!(operation, 5 | 25 | 38)
 }
 
-pub fn read_error(s: &[u8], c: Cursor) -> ReadError
-    ensures { parsed_of_error result ≡ error_at s.now c.at }
+#[tactic(auto, unfolding(crate::specs::Reports::error_at, xdr::specs::Parsed::then, base::specs::Answer::pick))]
+pub fn read_error(s: &[u8], c: Cursor) -> Read<ErrorItem>
+    ensures { parsed_of result ≡ error_at s.now c.at }
 {
-    let rd = xdr::read_bytes(s, c, DEVICE_ID_SIZE);
-    let ReadPart::Value(device, c1) = rd else {
-        return ReadError::Refused(xdr::fault_of_part(rd));
-    };
-    let rs = xdr::read_u32(s, c1);
-    let ReadU32::Value(status, c2) = rs else {
-        return ReadError::Refused(xdr::fault_of_u32(rs));
-    };
-    let ro = xdr::read_u32(s, c2);
-    let ReadU32::Value(operation, c3) = ro else {
-        return ReadError::Refused(xdr::fault_of_u32(ro));
-    };
+    let (device, c1) = xdr::read_bytes(s, c, DEVICE_ID_SIZE)?;
+    let (status, c2) = xdr::read_u32(s, c1)?;
+    let (operation, c3) = xdr::read_u32(s, c2)?;
     if !error_fits(status, operation) {
-        return ReadError::Refused(Fault::ErrorInvalid);
+        return Err(Fault::ErrorInvalid);
     }
-    let start = device.start;
     let item = ErrorItem {
-        device: start,
-        status: status,
-        operation: operation,
+        device: device.start,
+        status,
+        operation,
     };
-    ReadError::Value(item, c3)
-}
-
-pub(crate) fn fault_of_error(r: ReadError) -> Fault
-    ensures { fault_number result ≡ fault_in (parsed_of_error r) }
-{
-    match r {
-        ReadError::Refused(e) => e,
-        ReadError::Value(_, _) => Fault::BytesRunOut,
-    }
+    Ok((item, c3))
 }
 
 // n errors, one after the other: where they end.
-pub(crate) fn read_errors(s: &[u8], c: Cursor, n: u32) -> ReadEnd
+pub(crate) fn read_errors(s: &[u8], c: Cursor, n: u32) -> Result<Cursor, Fault>
     ensures { parsed_of_end result ≡ end_of (many_at error_at n s.now c.at) }
 {
     let mut d = c;
-    let mut left = n;
-    while 0 < left {
-        let r = read_error(s, d);
-        let ReadError::Value(_, e) = r else {
-            return ReadEnd::Refused(fault_of_error(r));
-        };
-        d = e;
-        left -= 1;
+    for _ in 0..n {
+        (_, d) = read_error(s, d)?;
     }
-    ReadEnd::Value(d)
+    Ok(d)
 }

@@ -9,11 +9,11 @@ mod put;
 mod write;
 
 use base::{REPORT_ENTRIES, STATEID_SIZE, STATISTIC_ENTRIES};
-pub use body::{CountAnswer, ReportsRead, StatisticsRead, read_reports, read_statistics};
-pub use error::{ReadError, error_fits, read_error};
+pub use body::{ReportsRead, StatisticsRead, read_reports, read_statistics};
+pub use error::{error_fits, read_error};
 pub use put::put_error;
 use statistics::Statistic;
-pub use write::{Written, write_reports, write_return};
+pub use write::{write_reports, write_return};
 
 // What is before the errors of a report. `errors` is how many errors follow. It crosses to C as it is.
 #[repr(C)]

@@ -1,24 +1,15 @@
 // The whole body, written.
 ghost use Rattle.std.specs.Prelude.{◌≡◌, length};
 ghost use Rattle.report.specs.Writing.{body_written, entries_at, output_after, reports_written, return_written};
-ghost use Rattle.base.specs.Checks.{answer_of_check};
 ghost use Rattle.base.specs.Lists.{length_of};
-ghost use Rattle.report.specs.WriteAnswers.{answer_of_written};
+ghost use Rattle.base.specs.Results.{answer_of, answered};
 
 use crate::check::{check_reports, total};
 use crate::put::put_reports;
 use crate::{Outgoing, ReportHead};
 use base::{
-    Check, ERROR_SIZE, Fault, MOST_REPORTS, MOST_STATISTICS, REPORT_ENTRIES, REPORT_HEAD_SIZE,
-    Refusal,
+    ERROR_SIZE, Fault, MOST_REPORTS, MOST_STATISTICS, REPORT_ENTRIES, REPORT_HEAD_SIZE, Refusal,
 };
-use statistics::EncodedAnswer;
-
-#[derive(Clone, Copy)]
-pub enum Written {
-    Length(usize),
-    Refused(Refusal),
-}
 
 // The body with the bytes of the tail after the reports; `checked` is whether the tail may be written.
 fn write_body(
@@ -26,40 +17,36 @@ fn write_body(
     heads: [ReportHead; REPORT_ENTRIES],
     list_length: usize,
     errors: &[u8],
-    checked: Check,
+    checked: Result<(), Fault>,
     tail: &[u8],
     out: &mut [u8],
-) -> Written
-    ensures { (answer_of_written result ≡ length_of (body_written count heads
-        (entries_at list_length errors.now 0) (answer_of_check checked) tail.now
+) -> Result<usize, Refusal>
+    ensures { (answered result ≡ length_of (body_written count heads
+        (entries_at list_length errors.now 0) (answer_of checked) tail.now
         (length out.old)))
         × (out.new ≡ output_after out.old (body_written count heads
-        (entries_at list_length errors.now 0) (answer_of_check checked) tail.now
+        (entries_at list_length errors.now 0) (answer_of checked) tail.now
         (length out.old))) }
 {
     if MOST_REPORTS < count {
-        return Written::Refused(Refusal::Fault(Fault::OutsideLimit));
+        return Err(Refusal::Fault(Fault::OutsideLimit));
     }
     let n = count as usize;
-    if total(heads, n) != list_length as u64 {
-        return Written::Refused(Refusal::Fault(Fault::OutsideLimit));
+    let used = &heads[..n];
+    if total(used) != list_length as u64 {
+        return Err(Refusal::Fault(Fault::OutsideLimit));
     }
-    let j = check_reports(heads, n, errors);
-    let Check::Allowed = j else {
-        return Written::Refused(Refusal::Fault(base::fault_of_check(j)));
-    };
-    let Check::Allowed = checked else {
-        return Written::Refused(Refusal::Fault(base::fault_of_check(checked)));
-    };
+    check_reports(used, errors)?;
+    checked?;
     let before = 4 + REPORT_HEAD_SIZE * n + ERROR_SIZE * list_length;
     let size = before + tail.len();
     if out.len() < size {
-        return Written::Refused(Refusal::OutputTooShort);
+        return Err(Refusal::OutputTooShort);
     }
     octets::put_be4(out, 0, count);
-    put_reports(out, heads, n, errors);
+    put_reports(out, used, errors);
     octets::put_bytes(out, before, tail);
-    Written::Length(size)
+    Ok(size)
 }
 
 // `errors` holds the error list as wire entries of 24 bytes; `list_length` is how long the list is.
@@ -69,8 +56,8 @@ pub fn write_reports(
     list_length: usize,
     errors: &[u8],
     out: &mut [u8],
-) -> Written
-    ensures { (answer_of_written result ≡ length_of
+) -> Result<usize, Refusal>
+    ensures { (answered result ≡ length_of
         (reports_written count heads (entries_at list_length errors.now 0) (length out.old)))
         × (out.new ≡ output_after out.old
         (reports_written count heads (entries_at list_length errors.now 0) (length out.old))) }
@@ -81,7 +68,7 @@ pub fn write_reports(
         heads,
         list_length,
         errors,
-        Check::Allowed,
+        Ok(()),
         &no_statistics,
         out,
     )
@@ -94,32 +81,28 @@ pub fn write_return(
     list_length: usize,
     errors: &[u8],
     out: &mut [u8],
-) -> Written
-    ensures { (answer_of_written result ≡ length_of
+) -> Result<usize, Refusal>
+    ensures { (answered result ≡ length_of
         (return_written outgoing (entries_at list_length errors.now 0) (length out.old)))
         × (out.new ≡ output_after out.old
         (return_written outgoing (entries_at list_length errors.now 0) (length out.old))) }
 {
+    if MOST_STATISTICS < outgoing.statistic_count {
+        return Err(Refusal::Fault(Fault::OutsideLimit));
+    }
     let count = outgoing.count;
     let heads = outgoing.heads;
-    let statistics = outgoing.statistics;
-    if MOST_STATISTICS < outgoing.statistic_count {
-        return Written::Refused(Refusal::Fault(Fault::OutsideLimit));
+    let part = statistics::encode_statistics(outgoing.statistic_count, outgoing.statistics);
+    match part.answer {
+        Ok(n) => write_body(
+            count,
+            heads,
+            list_length,
+            errors,
+            Ok(()),
+            &part.bytes[..n],
+            out,
+        ),
+        Err(e) => write_body(count, heads, list_length, errors, Err(e), b"", out),
     }
-    let part = statistics::encode_statistics(outgoing.statistic_count, statistics);
-    let answer = part.answer;
-    let EncodedAnswer::Length(n) = answer else {
-        let checked = Check::Refused(statistics::fault_of_encoded(answer));
-        return write_body(count, heads, list_length, errors, checked, b"", out);
-    };
-    let tail = part.bytes;
-    write_body(
-        count,
-        heads,
-        list_length,
-        errors,
-        Check::Allowed,
-        &tail[..n],
-        out,
-    )
 }

@@ -3,7 +3,7 @@ use Prim.Native.Nat.{ℕ, ◌+◌, ◌≤◌, ◌<◌}
 use mathlib.Core.Path.{◌≡◌, ap, ◌∙◌}
 use mathlib.Core.Bool.{Bool, true, false}
 use mathlib.Core.List.{List}
-use lib.ListN.{length, drop, get_or, drop_of_length-le}
+use lib.ListN.{length, drop, get_or}
 use Rattle.base.specs.Answer.{Answer, accepted, refused, given, pick}
 use Rattle.base.specs.declared.StripeNumber.{StripeNumber}
 use Rattle.base.specs.declared.iomode.Iomode.{Iomode}
@@ -11,10 +11,9 @@ use Rattle.base.specs.Ranges.{request_last}
 use Rattle.base.proofs.AnswerLaws.{pick_false, pick_true}
 use Rattle.layout.specs.Layouts.{flags_at_end}
 use Rattle.segments.specs.declared.Segment.{Segment}
-use Rattle.segments.specs.declared.Segments.{Segments}
 use Rattle.segments.specs.declared.Table.{Table}
-use Rattle.segments.specs.Segments.{list_of, within}
-use Rattle.lookup.proofs.LookupLaws.{next_segment}
+use Rattle.segments.specs.Segments.{within}
+use Rattle.lookup.proofs.LookupLaws.{next_segment, no_segment}
 use Rattle.store.specs.Store.{body_in, slot_at}
 use Rattle.soundness.specs.Sound.{sound}
 use Rattle.route.specs.Routes.{Grant, Serving, grant_in, grant_of, mirrors_named, no_reads, piece_at, routed, served, stripe_in}
@@ -24,18 +23,18 @@ use Rattle.route.specs.declared.piece.Piece.{Piece}
 
 -- ---- the segments looked through from the front
 
-module _ (m : Iomode) (x : ℕ) (g : Segments) (k : ℕ) where
-  pub grant_next : (d : Segment) → k < length (list_of g)
-      → grant_in m (drop k (list_of g)) x
-      ≡ pick (within (get_or g.items k d).first (get_or g.items k d).last x)
-      (grant_of m (get_or g.items k d).right (get_or g.items k d).last)
-      (grant_in m (drop (k + 1) (list_of g)) x)
+module _ (m : Iomode) (x : ℕ) (l : List Segment) (k : ℕ) where
+  pub grant_next : (d : Segment) → k < length l
+      → grant_in m (drop k l) x
+      ≡ pick (within (get_or l k d).first (get_or l k d).last x)
+      (grant_of m (get_or l k d).right (get_or l k d).last)
+      (grant_in m (drop (k + 1) l) x)
   unfolding grant_in
-  grant_next d h = ap (λ (l : List Segment). grant_in m l x) (next_segment g k d h)
+  grant_next d h = ap (λ (l : List Segment). grant_in m l x) (next_segment l k d h)
 
-  pub grant_none : length (list_of g) ≤ k → grant_in m (drop k (list_of g)) x ≡ refused 17
+  pub grant_none : length l ≤ k → grant_in m (drop k l) x ≡ refused 17
   unfolding grant_in
-  grant_none h = ap (λ (l : List Segment). grant_in m l x) (drop_of_length-le (list_of g) h)
+  grant_none h = ap (λ (l : List Segment). grant_in m l x) (no_segment l k h)
 
 -- ---- a grant of RW that serves reads
 

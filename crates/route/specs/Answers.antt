@@ -1,32 +1,23 @@
 -- What the answers of the route's functions say, and what those inside this crate promise.
-use Rattle.std.specs.Prelude.{ℕ, Bool, List}
+use Rattle.std.specs.Prelude.{ℕ, Bool, List, Option, None, Some}
 use Rattle.base.specs.Answer.{Answer, accepted, refused, given, pick}
-use Rattle.base.specs.Refusals.{number_of}
 use Rattle.layout.specs.Layouts.{flags_at_end}
 use Rattle.segments.specs.declared.Table.{Table}
 use Rattle.store.specs.Store.{body_in, slot_at}
 use Rattle.route.specs.Routes as routes
-use Rattle.route.specs.declared.piece.Piece.{Piece}
-use Rattle.route.specs.declared.piece.Located.{Located}
-use Rattle.route.specs.declared.piece.Located.TheVariants as located
 use Rattle.route.specs.declared.request.Serving.{Serving}
 use Rattle.route.specs.declared.rights.Grant.{Grant}
-use Rattle.route.specs.declared.rights.GrantAnswer.{GrantAnswer}
-use Rattle.route.specs.declared.rights.GrantAnswer.TheVariants as answer
 
 abbrev pub grant_value : Grant → routes.Grant
 grant_value g = record { iomode = g.iomode; slot = g.slot.0; last = g.last }
 
-abbrev pub answer_of_grant : GrantAnswer → Answer routes.Grant
-answer_of_grant (answer.Value g) = accepted (grant_value g)
-answer_of_grant answer.Missing = refused 17
+-- none is 17
+abbrev pub answer_of_grant : Option Grant → Answer routes.Grant
+answer_of_grant (Some g) = accepted (grant_value g)
+answer_of_grant None = refused 17
 
 abbrev pub serving_of : Serving → routes.Serving
 serving_of v = record { grant = grant_value v.grant; layout = record { summary = v.summary; starts = v.starts } }
-
-abbrev pub answer_of_located : Located → Answer Piece
-answer_of_located (located.At p) = accepted p
-answer_of_located (located.Refused e) = refused (number_of e)
 
 -- ---- inside this crate
 

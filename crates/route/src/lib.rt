@@ -8,5 +8,5 @@ mod request;
 mod rights;
 mod stripes;
 
-pub use piece::{Located, Piece};
+pub use piece::Piece;
 pub use request::locate;

@@ -27,14 +27,12 @@ pub(crate) fn best_mirror(
 {
     let mut best: u32 = 0;
     let mut highest = efficiency(body, starts, stripe, MirrorNumber(0));
-    let mut m: u32 = 1;
-    while m < mirrors {
+    for m in 1..mirrors {
         let e = efficiency(body, starts, stripe, MirrorNumber(m));
         if highest < e {
             best = m;
             highest = e;
         }
-        m += 1;
     }
     MirrorNumber(best)
 }
@@ -44,23 +42,14 @@ fn power(n: u32) -> u32
     requires { n ≤ most_mirrors }
     ensures { (result ≡ 2 ^ n) × (1 ≤ result) }
 {
-    let mut p: u32 = 1;
-    let mut i: u32 = 0;
-    while i < n {
-        p = p * 2;
-        i += 1;
-    }
-    p
+    1 << n
 }
 
 // Whether all mirrors are named: in a write, unless flag 8 is in its body.
 fn names_all(write: bool, flags: u32) -> bool
     ensures { result ≡ (write && not (one_mirror flags)) }
 {
-    if !write {
-        return false;
-    }
-    !base::has_bit(flags, 8)
+    write && !base::has_bit(flags, 8)
 }
 
 pub(crate) fn mirrors_named(

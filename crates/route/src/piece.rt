@@ -1,5 +1,5 @@
 // The answer to an I/O request.
-use base::{Iomode, Refusal, SlotNumber, StripeNumber};
+use base::{Iomode, SlotNumber, StripeNumber};
 
 // The part of a request that one data server of each named mirror takes. The mirrors are a set of bits, bit 0 being
 // mirror 0.
@@ -11,10 +11,4 @@ pub struct Piece {
     pub offset: u64,
     pub length: u64,
     pub mirrors: u32,
-}
-
-#[derive(Clone, Copy)]
-pub enum Located {
-    At(Piece),
-    Refused(Refusal),
 }

@@ -1,15 +1,16 @@
 // Where an I/O request goes.
 ghost use Rattle.std.specs.Prelude.{◌≡◌, ◌≤◌, ◌<◌};
 ghost use Rattle.base.specs.Limits.{most_mirrors};
-ghost use Rattle.route.specs.Answers.{answer_of_located, serving_of};
+ghost use Rattle.base.specs.Results.{answered};
+ghost use Rattle.route.specs.Answers.{serving_of};
 ghost use Rattle.route.specs.Routes.{piece_at, routed};
 
 use crate::mirrors::mirrors_named;
-use crate::piece::{Located, Piece};
-use crate::rights::{Grant, GrantAnswer, serving_grant, slot_asked};
+use crate::piece::Piece;
+use crate::rights::{Grant, serving_grant, slot_asked};
 use crate::stripes::{piece_length, stripe_of};
-use base::{MOST_STARTS, RangeEnd, Refusal};
-use layout::{LayoutAnswer, Summary};
+use base::{MOST_STARTS, Refusal};
+use layout::Summary;
 use segments::Table;
 
 // What serves a request: a grant, and the layout body in its slot.
@@ -30,7 +31,6 @@ fn piece_at(write: bool, store: &[u8], offset: u64, len: u64, v: Serving) -> Pie
     let g = v.grant;
     let summary = v.summary;
     let starts = v.starts;
-    let iomode = g.iomode;
     let slot = g.slot;
     let stripe = stripe_of(summary.unit, summary.servers, offset);
     let piece = piece_length(summary.unit, summary.servers, g.last, offset, len);
@@ -42,7 +42,7 @@ fn piece_at(write: bool, store: &[u8], offset: u64, len: u64, v: Serving) -> Pie
         stripe,
     );
     Piece {
-        iomode,
+        iomode: g.iomode,
         slot,
         stripe,
         offset,
@@ -52,31 +52,26 @@ fn piece_at(write: bool, store: &[u8], offset: u64, len: u64, v: Serving) -> Pie
 }
 
 // "Order: 20, 5, 17." In a sound store the body under which a byte is granted is read, never refused.
-pub fn locate(t: Table, store: &[u8], write: bool, offset: u64, len: u64) -> Located
-    ensures { answer_of_located result ≡ routed write t store.now offset len }
+pub fn locate(t: Table, store: &[u8], write: bool, offset: u64, len: u64) -> Result<Piece, Refusal>
+    ensures { answered result ≡ routed write t store.now offset len }
 {
     let h = serving_grant(write, t, store, offset);
     let j = soundness::validate_and_read(t, store, slot_asked(h));
     if !j.sound {
-        return Located::Refused(Refusal::Unsound);
+        return Err(Refusal::Unsound);
     }
-    let e = base::request_last(offset, len);
-    let RangeEnd::At(_) = e else {
-        return Located::Refused(Refusal::Fault(base::fault_of_range_end(e)));
+    base::request_last(offset, len)?;
+    let Some(grant) = h else {
+        return Err(Refusal::RightMissing);
     };
-    let GrantAnswer::Value(grant) = h else {
-        return Located::Refused(Refusal::RightMissing);
+    let Ok(summary) = j.read.answer else {
+        return Err(Refusal::RightMissing);
     };
-    let read = j.read;
-    let a = read.answer;
-    let LayoutAnswer::Value(summary) = a else {
-        return Located::Refused(Refusal::RightMissing);
-    };
-    let starts = read.starts;
+    let starts = j.read.starts;
     let v = Serving {
         grant,
         summary,
         starts,
     };
-    Located::At(piece_at(write, store, offset, len, v))
+    Ok(piece_at(write, store, offset, len, v))
 }

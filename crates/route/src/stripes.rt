@@ -2,7 +2,7 @@
 ghost use Rattle.std.specs.Prelude.{◌≡◌, ◌/◌, ◌≤◌, ◌<◌};
 ghost use Rattle.route.specs.Stripes.{piece_length, stripe_of, unit_rest};
 
-use base::{StripeNumber, smaller};
+use base::StripeNumber;
 
 // Which unit of the file a byte is in.
 pub(crate) fn unit_index(unit: u64, offset: u64) -> u64
@@ -36,10 +36,10 @@ pub(crate) fn piece_length(unit: u64, servers: u32, last: u64, offset: u64, len:
     requires { (1 ≤ len) × (offset ≤ last) × (1 < servers → 0 < unit) }
     ensures { result ≡ piece_length unit servers last offset len }
 {
-    let held = smaller(len - 1, last - offset);
+    let held = (len - 1).min(last - offset);
     if servers <= 1 {
         return held + 1;
     }
     let rest = unit_rest(unit, offset) - 1;
-    smaller(held, rest) + 1
+    held.min(rest) + 1
 }

@@ -3,7 +3,7 @@
 
 ghost use Rattle.std.specs.Prelude.{◌≡◌, min};
 ghost use Rattle.base.specs.Limits.{most_segments};
-ghost use Rattle.segments.specs.Segments.{acts_on, empty_table, kind_of, mode_of, same_right, segments_for};
+ghost use Rattle.segments.specs.Segments.{acts_on, empty_table, kind_of, mode_of, list_of, same_right, segments_for};
 ghost use Rattle.segments.specs.Segments.{slot_number_of};
 
 use base::{Iomode, MOST_SEGMENTS, SlotNumber};
@@ -24,11 +24,22 @@ pub struct Segment {
     pub right: Right,
 }
 
-// The segments of one iomode, in the first count entries.
+// The segments of one iomode, in the first count entries: the core has no heap, and a count from C may be any number.
 #[derive(Clone, Copy)]
 pub struct Segments {
     pub items: [Segment; MOST_SEGMENTS],
     pub count: usize,
+}
+
+impl Segments {
+    // Those that the count can mean.
+    #[tactic(auto, using(base::proofs::ListLaws::take_capped))]
+    pub fn used(&self) -> &[Segment]
+        ensures { result.now ≡ list_of self.now }
+    {
+        let n = used_entries(self.count);
+        &self.items[..n]
+    }
 }
 
 #[derive(Clone, Copy)]
@@ -103,14 +114,10 @@ pub fn empty_table() -> Table
 pub fn used_entries(count: usize) -> usize
     ensures { result ≡ min count most_segments }
 {
-    if count < MOST_SEGMENTS {
-        return count;
-    }
-    MOST_SEGMENTS
+    count.min(MOST_SEGMENTS)
 }
 
-// The list with a number, so that a walk over both lists asks its question in one place: a function that is called in
-// two is not inlined, and copies the list once more.
+// The list with a number; any number but 0 is that of RW.
 pub fn list_in(t: Table, i: u32) -> Segments
     ensures { result ≡ segments_for t (mode_of i) }
 {

@@ -1,2 +1,1 @@
 pub mod Servers
-pub mod Answers

@@ -6,7 +6,7 @@ mod head;
 mod item;
 
 pub use handles::skip_handles;
-pub use item::{ReadServer, Server, fault_of_server, read_server};
+pub use item::{Server, read_server};
 
 // Where a server's efficiency is, from the server's start: after the device id.
 pub const SERVER_EFFICIENCY_OFFSET: usize = base::DEVICE_ID_SIZE;

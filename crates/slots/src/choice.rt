@@ -18,13 +18,11 @@ pub enum SlotChoice {
 fn unnamed(named: [bool; SLOT_ENTRIES]) -> SlotChoice
     ensures { (bytes : List ℕ) → result ≡ free_choice (slots_from (is_set named) bytes slot_count 0) }
 {
-    let mut i: u32 = 0;
-    while i < SLOT_COUNT {
+    for i in 0..SLOT_COUNT {
         let k = i as usize;
         if !named[k] {
             return SlotChoice::Free(SlotNumber(i));
         }
-        i += 1;
     }
     SlotChoice::NoneLeft
 }
@@ -32,14 +30,12 @@ fn unnamed(named: [bool; SLOT_ENTRIES]) -> SlotChoice
 pub fn choose_slot(named: [bool; SLOT_ENTRIES], store: &[u8], body: &[u8]) -> SlotChoice
     ensures { result ≡ slot_choice body.now (slots_from (is_set named) store.now slot_count 0) }
 {
-    let mut i: u32 = 0;
-    while i < SLOT_COUNT {
+    for i in 0..SLOT_COUNT {
         let k = i as usize;
         let s = SlotNumber(i);
         if store::holds_body(named[k], store, s, body) {
             return SlotChoice::Holding(s);
         }
-        i += 1;
     }
     unnamed(named)
 }

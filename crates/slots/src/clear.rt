@@ -25,10 +25,8 @@ fn clear_if_unnamed(was: bool, is: bool, i: SlotNumber, store: &mut [u8])
 pub fn clear_unnamed(was: [bool; SLOT_ENTRIES], is: [bool; SLOT_ENTRIES], store: &mut [u8])
     ensures { store.new ≡ cleared_from (is_set was) (is_set is) slot_count 0 store.old }
 {
-    let mut i: u32 = 0;
-    while i < SLOT_COUNT {
+    for i in 0..SLOT_COUNT {
         let k = i as usize;
         clear_if_unnamed(was[k], is[k], SlotNumber(i), store);
-        i += 1;
     }
 }

@@ -8,8 +8,12 @@ use native.Mathlib.Omega.{arith}
 use borrow.Author.Tests.{eqb-false, eqb-true, le-ltb, lt-ltb, ltb-false, ltb-true}
 use lib.Dec.{eqb, ltb}
 use lib.ListN.{replicate}
-use Rattle.base.specs.Answer.{Answer, pick}
-use Rattle.layout.specs.Answers.{starts_in}
+use Rattle.std.specs.Prelude.{Result, Ok, Err}
+use Rattle.std.specs.Result.{is_ok}
+use Rattle.base.specs.Answer.{Answer, is_accepted, pick}
+use Rattle.base.specs.declared.refusal.Fault.{Fault}
+use Rattle.layout.specs.declared.body.Summary.{Summary}
+use Rattle.layout.specs.Answers.{answer_of_layout, starts_in}
 use Rattle.layout.specs.Layouts.{Layout, layout_body}
 use Rattle.octets.specs.Numbers.{same_bytes}
 use Rattle.segments.specs.declared.Table.{Table}
@@ -33,6 +37,11 @@ unfolding slots_sound
 slots_none t store n i h =
     let e : n - i ≡ 0 = omega arith in
     rw e
+
+-- a result that is a value stands for an accepted answer
+pub ok_accepted : (a : Result Summary Fault) (starts : List ℕ) → is_accepted (answer_of_layout a starts) ≡ is_ok a
+ok_accepted (Ok v) starts = refl
+ok_accepted (Err e) starts = refl
 
 -- ---- a body among slots
 

@@ -5,18 +5,18 @@ ghost use Rattle.layout.specs.Layouts.{layout_body};
 ghost use Rattle.segments.specs.declared.Table.{Table};
 ghost use Rattle.lookup.specs.Lookup.{named_slots};
 ghost use Rattle.store.specs.Store.{body_in};
-ghost use Rattle.base.specs.Answer.{is_accepted};
 ghost use Rattle.soundness.specs.Sound.{slot_sound};
 ghost use Rattle.soundness.specs.Validations.{SlotsValidation, UnsoundValidation};
 
 use base::{
     Fault, LONGEST_BODY, MOST_STARTS, SLOT_COUNT, SLOT_ENTRIES, SLOT_HEAD_SIZE, SlotNumber,
 };
-use layout::{LayoutAnswer, LayoutRead};
+use layout::{LayoutRead, Summary};
 
 // `read` is what the layout body in one slot reads as, the one that was asked for: a lookup would read it again. Where
 // nothing was read, it is refused as no bytes at all are, and its starts are 0. `named` says of each slot whether a
-// segment names it; of an unsound table none.
+// segment names it; of an unsound table none. What is beside `sound` when it is false is promised too
+// (`validate_and_read`), so it is a flag.
 #[derive(Clone, Copy)]
 pub struct Validation {
     pub read: LayoutRead,
@@ -28,7 +28,7 @@ pub(crate) fn unsound() -> Validation
     ensures { UnsoundValidation result }
 {
     let read = LayoutRead {
-        answer: LayoutAnswer::Refused(Fault::BytesRunOut),
+        answer: Err(Fault::BytesRunOut),
         starts: [0u16; MOST_STARTS],
     };
     Validation {
@@ -38,17 +38,8 @@ pub(crate) fn unsound() -> Validation
     }
 }
 
-fn is_accepted(answer: LayoutAnswer) -> bool
-    ensures { (starts : List ℕ) → result ≡ is_accepted (answer_of_layout answer starts) }
-{
-    match answer {
-        LayoutAnswer::Value(_) => true,
-        LayoutAnswer::Refused(_) => false,
-    }
-}
-
 // A named slot. `answer` is what its body reads as.
-fn is_filled(slot: &[u8], answer: LayoutAnswer) -> bool
+fn is_filled(slot: &[u8], answer: Result<Summary, Fault>) -> bool
     ensures { (starts : List ℕ) → answer_of_layout answer starts ≡ layout_body (body_in slot.now)
         → result ≡ slot_sound true slot.now }
 {
@@ -59,7 +50,7 @@ fn is_filled(slot: &[u8], answer: LayoutAnswer) -> bool
     if store::slot_kind(slot) != 4 {
         return false;
     }
-    if !is_accepted(answer) {
+    if !answer.is_ok() {
         return false;
     }
     octets::all_zero(slot, SLOT_HEAD_SIZE + n)
@@ -75,14 +66,12 @@ pub(crate) fn validate_slots(
 {
     let none = unsound();
     let mut read = none.read;
-    let mut i: u32 = 0;
-    while i < SLOT_COUNT {
+    for i in 0..SLOT_COUNT {
         let k = i as usize;
         let slot = store::slot_bytes(store, SlotNumber(i));
         if named[k] {
             let l = layout::read_layout(store::slot_body(slot));
-            let a = l.answer;
-            if !is_filled(slot, a) {
+            if !is_filled(slot, l.answer) {
                 return none;
             }
             if i == asked.0 {
@@ -93,7 +82,6 @@ pub(crate) fn validate_slots(
                 return none;
             }
         }
-        i += 1;
     }
     Validation {
         read,

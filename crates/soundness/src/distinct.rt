@@ -16,13 +16,11 @@ fn is_held_from(named: [bool; SLOT_ENTRIES], store: &[u8], from: SlotNumber, bod
         → result ≡ in_slots body.now
         (slots_from (is_named t) store.now (slot_count - from.0) from.0) }
 {
-    let mut j = from.0;
-    while j < SLOT_COUNT {
+    for j in from.0..SLOT_COUNT {
         let k = j as usize;
         if store::holds_body(named[k], store, SlotNumber(j), body) {
             return true;
         }
-        j += 1;
     }
     false
 }
@@ -48,12 +46,10 @@ fn is_held_again(named: [bool; SLOT_ENTRIES], store: &[u8], i: SlotNumber) -> bo
 pub(crate) fn all_distinct(named: [bool; SLOT_ENTRIES], store: &[u8]) -> bool
     ensures { (t : Table) → named ≡ named_slots t → result ≡ all_distinct (slots_in t store.now) }
 {
-    let mut i: u32 = 0;
-    while i < SLOT_COUNT {
+    for i in 0..SLOT_COUNT {
         if is_held_again(named, store, SlotNumber(i)) {
             return false;
         }
-        i += 1;
     }
     true
 }

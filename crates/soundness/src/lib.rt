@@ -15,7 +15,7 @@ mod lists;
 
 pub use bodies::Validation;
 
-// The verdict, and which slots segments name; of an unsound table none.
+// The verdict, and which slots segments name; of an unsound table none, which `validate` promises, so it is a flag.
 #[derive(Clone, Copy)]
 pub struct Soundness {
     pub named: [bool; SLOT_ENTRIES],

@@ -22,8 +22,7 @@ fn is_fit(s: Segment) -> bool
     if s.last < s.first {
         return false;
     }
-    let right = s.right;
-    has_slot(right)
+    has_slot(s.right)
 }
 
 // Two neighbours. The gap is a difference, since the byte after the last one has no number.
@@ -36,9 +35,7 @@ fn are_apart(a: Segment, b: Segment) -> bool
     if b.first - a.last != 1 {
         return true;
     }
-    let x = a.right;
-    let y = b.right;
-    !segments::same_right(x, y)
+    !segments::same_right(a.right, b.right)
 }
 
 fn is_blank(s: Segment) -> bool
@@ -50,8 +47,7 @@ fn is_blank(s: Segment) -> bool
     if s.last != 0 {
         return false;
     }
-    let right = s.right;
-    segments::same_right(Right::None, right)
+    segments::same_right(Right::None, s.right)
 }
 
 // Each segment by itself, and with its neighbour after it; then the entries after the last one, with no exit among
@@ -62,25 +58,23 @@ fn segments_sound(g: Segments) -> bool
     if MOST_SEGMENTS < g.count {
         return false;
     }
-    let mut k: usize = 0;
-    while k < g.count {
-        let s = g.items[k];
+    let all = g.used();
+    for k in 0..all.len() {
+        let s = all[k];
         if !is_fit(s) {
             return false;
         }
-        k += 1;
-        if k < g.count {
-            let b = g.items[k];
+        let next = k + 1;
+        if next < all.len() {
+            let b = all[next];
             if !are_apart(s, b) {
                 return false;
             }
         }
     }
     let mut blank = true;
-    while k < MOST_SEGMENTS {
-        let s = g.items[k];
-        blank = blank & is_blank(s);
-        k += 1;
+    for s in &g.items[g.count..] {
+        blank = blank & is_blank(*s);
     }
     blank
 }
@@ -88,13 +82,11 @@ fn segments_sound(g: Segments) -> bool
 pub(crate) fn lists_sound(t: Table) -> bool
     ensures { result ≡ (segments_sound t.read && segments_sound t.rw) }
 {
-    let mut i: u32 = 0;
-    while i < 2 {
+    for i in 0..2 {
         let g = segments::list_in(t, i);
         if !segments_sound(g) {
             return false;
         }
-        i += 1;
     }
     true
 }

@@ -1,25 +1,27 @@
 -- Laws of records that are checked and stored one after the other: what is left to be stored, and the first record apart.
-use Prim.Native.Nat.{ℕ, ◌+◌, ◌-◌, ◌≤◌, ◌<◌}
+use Prim.Native.Nat.{ℕ, ◌+◌, ◌≤◌, ◌<◌}
 use mathlib.Core.Path.{◌≡◌, refl, sym, ap, ◌∙◌}
 use mathlib.Core.Bool.{true}
 use mathlib.Core.List.{List, [], ◌++◌}
 use native.Mathlib.Omega.{arith}
 use borrow.Author.Tests.{le-leb, lt-leb}
-use lib.ListN.{length, take, drop, get_or, replicate, length-append}
-use lib.Seq.{length-take-le, sets}
+use native.Mathlib.Numerals.{add-one}
+use lib.ListN.{length, take, drop, get_or, replicate, drop_of_length-le, length-append}
+use lib.Seq.{drop-cons, length-take-le, sets}
 use Rattle.base.specs.Answer.{Answer, accepted, refused, given, pick}
+use Rattle.std.specs.Prelude.{Result, Ok, Err}
+use Rattle.std.specs.Result.{IsErr}
+use Rattle.base.specs.declared.refusal.Fault.{Fault}
+use Rattle.base.specs.Results.{answer_of}
 use Rattle.base.specs.Limits.{longest_statistics, most_statistics}
 use Rattle.base.specs.Lists.{length_of, members_in, padded}
-use Rattle.base.specs.Refusals.{fault_number}
-use Rattle.base.specs.declared.refusal.Fault.{Fault}
 use Rattle.base.proofs.AnswerLaws.{given_inv, pick_accepted}
-use Rattle.base.proofs.ListLaws.{filled_is_padded, sets_append, taken_next}
+use Rattle.base.proofs.ListLaws.{filled_is_padded, sets_append}
 use Rattle.octets.specs.Numbers.{be_bytes}
-use Rattle.statistics.specs.Encoding.{RefusedEncoding, answer_of_encoded, encoded}
+use Rattle.statistics.specs.Encoding.{encoded}
 use Rattle.statistics.specs.StatisticBytes.{PutAt, statistic_bytes, statistics_bytes, statistics_part}
 use Rattle.statistics.specs.StatisticChecks.{checked_statistic, checked_statistics, lengths_fit}
 use Rattle.statistics.specs.declared.Statistic.{Statistic}
-use Rattle.statistics.specs.declared.encode.EncodedStatistics.{EncodedStatistics}
 
 -- ---- what is left to be stored
 
@@ -42,25 +44,25 @@ none_left w = record { bytes = sym w.stores; next = omega (arith, w.ends) }
 
 -- ---- the first record apart
 
-module _ (rs : List Statistic) (i m : ℕ) where
-  pub checked_next : (d : Statistic) (a : Answer (Unit {0})) → i < length rs → 0 < m → checked_statistic (get_or rs i d) ≡ a
-      → checked_statistics (take m (drop i rs)) ≡ given a (λ u. checked_statistics (take (m - 1) (drop (i + 1) rs)))
+module _ (rs : List Statistic) (i : ℕ) where
+  pub checked_next : (d : Statistic) (a : Answer (Unit {0})) → i < length rs → a ≡ checked_statistic (get_or rs i d)
+      → checked_statistics (drop i rs) ≡ given a (λ u. checked_statistics (drop (i + 1) rs))
   unfolding checked_statistics
-  checked_next d a h k e = rw (taken_next rs d i m h k, e)
+  checked_next d a h e = rw (add-one i, drop-cons rs i d h, ← e)
 
-  pub record_stored : {l bs s n : List ℕ} {at p q : ℕ} (d : Statistic) → i < length rs → 0 < m
-      → Left l at bs s p (statistics_bytes (take m (drop i rs))) → PutAt s p (statistic_bytes (get_or rs i d)) n q
-      → Left l at bs n q (statistics_bytes (take (m - 1) (drop (i + 1) rs)))
+  pub record_stored : {l bs s n : List ℕ} {at p q : ℕ} (d : Statistic) → i < length rs
+      → Left l at bs s p (statistics_bytes (drop i rs)) → PutAt s p (statistic_bytes (get_or rs i d)) n q
+      → Left l at bs n q (statistics_bytes (drop (i + 1) rs))
   unfolding statistics_bytes
-  record_stored d h k w s = less_left (statistic_bytes (get_or rs i d)) _ (rw (taken_next rs d i m h k) at w) s
+  record_stored d h w s = less_left (statistic_bytes (get_or rs i d)) _ (rw (add-one i) (rw (drop-cons rs i d h) at w)) s
 
-  pub checked_none : m ≡ 0 → checked_statistics (take m (drop i rs)) ≡ accepted tt
+  pub checked_none : length rs ≤ i → checked_statistics (drop i rs) ≡ accepted tt
   unfolding checked_statistics
-  checked_none h = rw h
+  checked_none h = rw (drop_of_length-le rs h)
 
-  pub bytes_none : m ≡ 0 → statistics_bytes (take m (drop i rs)) ≡ []
+  pub bytes_none : length rs ≤ i → statistics_bytes (drop i rs) ≡ []
   unfolding statistics_bytes
-  bytes_none h = rw h
+  bytes_none h = rw (drop_of_length-le rs h)
 
 -- the count is stored: the records are left
 pub records_left : (count : ℕ) (rs : List Statistic) (l m : List ℕ) → count ≤ length rs → PutAt l 0 (be_bytes 4 count) m 4
@@ -92,10 +94,9 @@ module _ (count : ℕ) (rs : List Statistic) where
   all_allowed h e = rw (le-leb _ _ h, e)
 
 module _ (x : Answer (List ℕ)) where
-  pub refused_as_said : (e : Fault) (r : EncodedStatistics) → RefusedEncoding e r → x ≡ refused (fault_number e)
-      → (answer_of_encoded r.answer ≡ length_of x) × (r.bytes ≡ padded longest_statistics 0 (members_in x))
-  unfolding length_of given padded
-  refused_as_said e r w h = rw h (w.answer, w.bytes)
+  pub refused_as_said : (n : ℕ) → x ≡ refused n → refused n ≡ length_of x
+  unfolding length_of given
+  refused_as_said n h = rw h
 
   pub stored_as_said : (bs m : List ℕ) (p : ℕ) → PutAt (replicate longest_statistics 0) 0 bs m p → p ≤ longest_statistics → x ≡ accepted bs
       → (accepted p ≡ length_of x) × (m ≡ padded longest_statistics 0 (members_in x))
@@ -103,3 +104,12 @@ module _ (x : Answer (List ℕ)) where
   stored_as_said bs m p w k h =
       let e : p ≡ length bs = omega (arith, w.next) in
       rw h (ap accepted e, w.bytes ∙ filled_is_padded longest_statistics 0 bs (omega arith))
+
+-- after a refusal each byte is 0
+pub blank_after : (r : Result ℕ Fault) (x : Answer (List ℕ)) → IsErr r → answer_of r ≡ length_of x
+    → replicate longest_statistics 0 ≡ padded longest_statistics 0 (members_in x)
+unfolding length_of given padded
+blank_after (Ok n) (accepted l) w e = cc
+blank_after (Ok n) (refused k) w e = refl
+blank_after (Err f) (accepted l) w e = cc
+blank_after (Err f) (refused k) w e = refl

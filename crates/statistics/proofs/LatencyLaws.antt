@@ -13,6 +13,8 @@ use Rattle.octets.proofs.BytesAtLaws.{bytes_are}
 use Rattle.xdr.specs.Parsed.{Parsed, ok, fault, then}
 use Rattle.xdr.specs.Items.{bytes_at, num_at}
 use Rattle.xdr.proofs.ItemsAtLaws.{bytes_stand}
+use Rattle.xdr.specs.declared.Part.{Part}
+use Rattle.xdr.proofs.Accepted.{bytes_read}
 use Rattle.xdr.proofs.ItemLaws.{bytes_short, num_short, num_there}
 use Rattle.statistics.specs.Latencies.{latency_at, latency_from, time_at}
 use Rattle.statistics.specs.declared.Latency.{Latency}
@@ -85,3 +87,7 @@ latency_by_counters s at = go (leb (at + 40) (length s)) refl where
       let r : at + 40 ≤ length s = leb-true _ _ e in
       rw (bytes_stand 40 (bytes_from 40 s at) s at (length_bytes 40 s at r) refl (bytes_are 40 s at r)) (five_there s at rest r)
   go false e = let h : length s < at + 40 = leb-false _ _ e in rw (bytes_short 40 s at (omega (arith, h))) (five_short s at rest h)
+
+-- numbers that were read as one item are there
+pub counters_there : (s : List ℕ) (at : ℕ) (v : Part) (p : ℕ) → bytes_at 40 s at ≡ ok v p → at + 40 ≤ length s
+counters_there s at v p h = let w = bytes_read 40 s at v p h in omega (arith, w.end, w.within)

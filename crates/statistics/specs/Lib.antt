@@ -1,7 +1,6 @@
 pub mod Latencies
 pub mod Statistics
 pub mod Inside
-pub mod Answers
 pub mod StatisticChecks
 pub mod StatisticBytes
 pub mod Encoding

@@ -1,42 +1,22 @@
 // Counts and latencies: `io_info4` and `ff_io_latency4`.
 ghost use Rattle.std.specs.Prelude.{◌≡◌, ◌+◌, ◌≤◌, length};
-ghost use Rattle.base.specs.Refusals.{fault_number};
-ghost use Rattle.xdr.specs.Parsed.{fault_in};
+ghost use Rattle.xdr.specs.Answers.{parsed_of};
 ghost use Rattle.statistics.specs.Latencies.{counters_size, io_info_at, latency_at, latency_from};
-ghost use Rattle.statistics.specs.Answers.{parsed_of_io_info, parsed_of_latency};
 
-use crate::times::{ReadTime, fault_of_time, read_time};
+use crate::times::read_time;
 use crate::{IoInfo, Latency, Time};
-use base::Fault;
-use xdr::{Cursor, ReadPart, ReadU64};
+use xdr::{Cursor, Read};
 
 // The five numbers before the times of a latency.
 const COUNTERS_SIZE: usize = 40;
 
-#[derive(Clone, Copy)]
-pub(crate) enum ReadIoInfo {
-    Value(IoInfo, Cursor),
-    Refused(Fault),
-}
-
-#[derive(Clone, Copy)]
-pub(crate) enum ReadLatency {
-    Value(Latency, Cursor),
-    Refused(Fault),
-}
-
-pub(crate) fn read_io_info(s: &[u8], c: Cursor) -> ReadIoInfo
-    ensures { parsed_of_io_info result ≡ io_info_at s.now c.at }
+#[tactic(auto, unfolding(crate::specs::Latencies::io_info_at, xdr::specs::Parsed::then))]
+pub(crate) fn read_io_info(s: &[u8], c: Cursor) -> Read<IoInfo>
+    ensures { parsed_of result ≡ io_info_at s.now c.at }
 {
-    let rc = xdr::read_u64(s, c);
-    let ReadU64::Value(count, c1) = rc else {
-        return ReadIoInfo::Refused(xdr::fault_of_u64(rc));
-    };
-    let rb = xdr::read_u64(s, c1);
-    let ReadU64::Value(bytes, c2) = rb else {
-        return ReadIoInfo::Refused(xdr::fault_of_u64(rb));
-    };
-    ReadIoInfo::Value(IoInfo { count, bytes }, c2)
+    let (count, c1) = xdr::read_u64(s, c)?;
+    let (bytes, c2) = xdr::read_u64(s, c1)?;
+    Ok((IoInfo { count, bytes }, c2))
 }
 
 // The latency whose five numbers are at an offset.
@@ -56,39 +36,12 @@ fn latency_of(s: &[u8], at: usize, busy: Time, completion: Time) -> Latency
 }
 
 // The five numbers are not judged, so they are one item.
-pub(crate) fn read_latency(s: &[u8], c: Cursor) -> ReadLatency
-    ensures { parsed_of_latency result ≡ latency_at s.now c.at }
+#[tactic(auto, using(crate::proofs::LatencyLaws::latency_by_counters, crate::proofs::LatencyLaws::counters_there), unfolding(xdr::specs::Parsed::then))]
+pub(crate) fn read_latency(s: &[u8], c: Cursor) -> Read<Latency>
+    ensures { parsed_of result ≡ latency_at s.now c.at }
 {
-    let rn = xdr::read_bytes(s, c, COUNTERS_SIZE);
-    let ReadPart::Value(counters, c1) = rn else {
-        return ReadLatency::Refused(xdr::fault_of_part(rn));
-    };
-    let rb = read_time(s, c1);
-    let ReadTime::Value(busy, c2) = rb else {
-        return ReadLatency::Refused(fault_of_time(rb));
-    };
-    let rc = read_time(s, c2);
-    let ReadTime::Value(completion, c3) = rc else {
-        return ReadLatency::Refused(fault_of_time(rc));
-    };
-    let latency = latency_of(s, counters.start, busy, completion);
-    ReadLatency::Value(latency, c3)
-}
-
-pub(crate) fn fault_of_io_info(r: ReadIoInfo) -> Fault
-    ensures { fault_number result ≡ fault_in (parsed_of_io_info r) }
-{
-    match r {
-        ReadIoInfo::Refused(e) => e,
-        ReadIoInfo::Value(_, _) => Fault::BytesRunOut,
-    }
-}
-
-pub(crate) fn fault_of_latency(r: ReadLatency) -> Fault
-    ensures { fault_number result ≡ fault_in (parsed_of_latency r) }
-{
-    match r {
-        ReadLatency::Refused(e) => e,
-        ReadLatency::Value(_, _) => Fault::BytesRunOut,
-    }
+    let (_, c1) = xdr::read_bytes(s, c, COUNTERS_SIZE)?;
+    let (busy, c2) = read_time(s, c1)?;
+    let (completion, c3) = read_time(s, c2)?;
+    Ok((latency_of(s, c.at, busy, completion), c3))
 }

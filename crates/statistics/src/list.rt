@@ -1,24 +1,26 @@
 // The statistics after the reports: where they end, and what they are.
-ghost use Rattle.std.specs.Prelude.{◌≡◌};
+ghost use Rattle.std.specs.Prelude.{◌≡◌, replicate};
+ghost use Rattle.base.specs.Limits.{most_statistics};
 ghost use Rattle.xdr.specs.Answers.{parsed_of_end, parsed_of_list};
 ghost use Rattle.xdr.specs.Parsed.{end_of};
-ghost use Rattle.statistics.specs.Statistics.{entries_read, statistic_entries_at, statistics_at};
+ghost use Rattle.statistics.specs.Statistics.{blank_statistic, entries_read, statistic_entries_at, statistics_at};
 
-use crate::item::{ReadItem, fault_of_item, read_item};
+use crate::item::read_item;
 use crate::record::statistic_of;
 use crate::{
     AddressText, Filehandle, IoInfo, Latency, LayoutUpdate, Netaddr, Netid, Statistic, Time,
 };
 use base::{
-    ADDRESS_SIZE, DEVICE_ID_SIZE, FILEHANDLE_SIZE, MOST_STATISTICS, NETID_SIZE, STATEID_SIZE,
-    STATISTIC_ENTRIES,
+    ADDRESS_SIZE, DEVICE_ID_SIZE, FILEHANDLE_SIZE, Fault, MOST_STATISTICS, NETID_SIZE,
+    STATEID_SIZE, STATISTIC_ENTRIES,
 };
-use xdr::{Cursor, ReadEnd, ReadU32};
+use xdr::{Cursor, Read};
 
-// The count, and the records in the first entries; the others are blank.
+// The count, and the records in the first entries; the others are blank. The entries are beside the answer because
+// each is promised to be blank after a refusal too.
 #[derive(Clone, Copy)]
 pub struct StatisticList {
-    pub answer: ReadU32,
+    pub answer: Read<u32>,
     pub entries: [Statistic; STATISTIC_ENTRIES],
 }
 
@@ -72,24 +74,28 @@ pub const NO_STATISTIC: Statistic = Statistic {
 };
 
 // Where they end: every record is judged, none is kept.
-pub fn statistics_end(s: &[u8], c: Cursor) -> ReadEnd
+pub fn statistics_end(s: &[u8], c: Cursor) -> Result<Cursor, Fault>
     ensures { parsed_of_end result ≡ end_of (statistics_at s.now c.at) }
 {
-    let count = xdr::read_count(s, c, 0, MOST_STATISTICS);
-    let ReadU32::Value(n, first) = count else {
-        return ReadEnd::Refused(xdr::fault_of_u32(count));
-    };
-    let mut d = first;
-    let mut left = n;
-    while 0 < left {
-        let r = read_item(s, d);
-        let ReadItem::Value(_, e) = r else {
-            return ReadEnd::Refused(fault_of_item(r));
-        };
-        d = e;
-        left -= 1;
+    let (n, mut d) = xdr::read_count(s, c, 0, MOST_STATISTICS)?;
+    for _ in 0..n {
+        (_, d) = read_item(s, d)?;
     }
-    ReadEnd::Value(d)
+    Ok(d)
+}
+
+// The records put into blank entries, up to the first that is refused.
+fn read_entries(s: &[u8], c: Cursor, entries: &mut [Statistic; STATISTIC_ENTRIES]) -> Read<u32>
+    requires { entries.old ≡ replicate most_statistics blank_statistic }
+    ensures { parsed_of_list entries.new result ≡ statistic_entries_at s.now c.at }
+{
+    let (n, mut d) = xdr::read_count(s, c, 0, MOST_STATISTICS)?;
+    for i in 0..n as usize {
+        let (item, next) = read_item(s, d)?;
+        entries[i] = statistic_of(s, item);
+        d = next;
+    }
+    Ok((n, d))
 }
 
 // Each entry is blank after a refusal.
@@ -98,29 +104,9 @@ pub fn read_list(s: &[u8], c: Cursor) -> StatisticList
         × (result.entries ≡ entries_read (statistic_entries_at s.now c.at)) }
 {
     let mut entries = [NO_STATISTIC; STATISTIC_ENTRIES];
-    let count = xdr::read_count(s, c, 0, MOST_STATISTICS);
-    let ReadU32::Value(n, first) = count else {
-        return StatisticList {
-            answer: count,
-            entries: entries,
-        };
-    };
-    let mut d = first;
-    let mut i: u32 = 0;
-    while i < n {
-        let r = read_item(s, d);
-        let ReadItem::Value(item, e) = r else {
-            return StatisticList {
-                answer: ReadU32::Refused(fault_of_item(r)),
-                entries: [NO_STATISTIC; STATISTIC_ENTRIES],
-            };
-        };
-        entries[i as usize] = statistic_of(s, item);
-        d = e;
-        i += 1;
+    let answer = read_entries(s, c, &mut entries);
+    if answer.is_err() {
+        entries = [NO_STATISTIC; STATISTIC_ENTRIES];
     }
-    StatisticList {
-        answer: ReadU32::Value(n, d),
-        entries: entries,
-    }
+    StatisticList { answer, entries }
 }

@@ -61,15 +61,14 @@ fn put_netaddr(out: &mut [u8], at: usize, a: Netaddr) -> usize
         × (at + 80 ≤ length out.old) }
     ensures { (PutAt out.old at (netaddr_bytes a) out.new result) × (result ≤ at + 80) }
 {
-    let netid = a.netid.bytes;
     let n = a.netid.length as usize;
-    let p = put_opaque(out, at, &netid[..n]);
-    let text = a.text.bytes;
+    let p = put_opaque(out, at, &a.netid.bytes[..n]);
     let m = a.text.length as usize;
-    put_opaque(out, p, &text[..m])
+    put_opaque(out, p, &a.text.bytes[..m])
 }
 
 // The file at a server: the address and the filehandle.
+#[tactic(auto, using(crate::proofs::PutLaws::lengths_in))]
 fn put_place(out: &mut [u8], at: usize, u: LayoutUpdate) -> usize
     requires { (lengths_fit u ≡ true) × (at + 212 ≤ length out.old) }
     ensures { (PutAt out.old at
@@ -77,9 +76,8 @@ fn put_place(out: &mut [u8], at: usize, u: LayoutUpdate) -> usize
         out.new result) × (result ≤ at + 212) }
 {
     let p = put_netaddr(out, at, u.address);
-    let filehandle = u.filehandle.bytes;
     let n = u.filehandle.length as usize;
-    put_opaque(out, p, &filehandle[..n])
+    put_opaque(out, p, &u.filehandle.bytes[..n])
 }
 
 fn put_update(out: &mut [u8], at: usize, u: LayoutUpdate) -> usize
@@ -99,13 +97,11 @@ pub(crate) fn put_statistic(out: &mut [u8], at: usize, r: Statistic) -> usize
     ensures { (PutAt out.old at (statistic_bytes r) out.new result)
         × (result ≤ at + longest_statistic) }
 {
-    let stateid = r.stateid;
-    let device = r.device;
     octets::put_be8(out, at, r.offset);
     octets::put_be8(out, at + 8, r.length);
-    octets::put_bytes(out, at + 16, &stateid);
+    octets::put_bytes(out, at + 16, &r.stateid);
     put_io_info(out, at + 32, r.read);
     put_io_info(out, at + 48, r.write);
-    octets::put_bytes(out, at + 64, &device);
+    octets::put_bytes(out, at + 64, &r.device);
     put_update(out, at + 80, r.update)
 }

@@ -5,14 +5,13 @@ use mathlib.Core.Bool.{Bool, true, false}
 use mathlib.Core.List.{List, [], ◌∷◌, ◌++◌, append-nil, append_assoc}
 use native.Mathlib.Omega.{arith}
 use native.Mathlib.Numerals.{add-one}
-use borrow.Author.Tests.{eq-eqb, ne_eqb}
 use lib.ListN.{length, take, get_or, set, replicate, length-append, length-set, get_or-append}
 use lib.Seq.{take-suc}
 use Rattle.base.specs.Answer.{pick}
 use Rattle.base.specs.Lists.{padded}
 use Rattle.base.proofs.ListLaws.{padded_next, padded_set}
 use Rattle.segments.specs.declared.Segment.{Segment}
-use Rattle.segments.specs.Segments.{blank, same_right}
+use Rattle.segments.specs.Segments.{blank}
 use Rattle.table.specs.Edits.{parts, push_all, push_seg, push_to, touching}
 
 -- ---- one push
@@ -101,16 +100,3 @@ pub parts_next : (g : Segment → List Segment) (l : List Segment) (i : ℕ) (e 
 unfolding parts
 parts_next g l i e h =
     rw (add-one i, take-suc l i e h, parts_append g (take i l) (get_or l i e ∷ [])) (ap (λ (r : List Segment). parts g (take i l) ++ r) (append-nil (g (get_or l i e))))
-
--- ---- when segments touch
-
-pub touching_next : (a s : Segment) (b : Bool) → a.last + 1 ≡ s.first → b ≡ same_right a.right s.right → b ≡ touching a s
-unfolding touching
-touching_next a s b h e = rw (eq-eqb (a.last + 1) s.first h) e
-
-pub touching_far : (a s : Segment) → (a.last + 1 ≡ s.first → ⊥) → false ≡ touching a s
-unfolding touching
-touching_far a s h = rw (ne_eqb (a.last + 1) s.first h)
-
-pub touching_past : (a s : Segment) → s.first ≤ a.last → false ≡ touching a s
-touching_past a s h = touching_far a s (λ e. omega arith)

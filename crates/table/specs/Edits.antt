@@ -1,18 +1,17 @@
 -- The edits of a list of segments, as lists: cut at the ends of the range, change what lies between, join what
 -- touches.
-use Rattle.std.specs.Prelude.{ℕ, ◌+◌, ◌-◌, max, min, Bool, true, false, ◌&&◌, List, [], ◌∷◌, ◌++◌, length, leb, ltb, eqb}
+use Rattle.std.specs.Prelude.{ℕ, ◌+◌, ◌-◌, max, min, Bool, true, false, ◌&&◌, Option, None, Some, List, [], ◌∷◌, ◌++◌, length, leb, ltb, eqb}
 use Rattle.base.specs.Limits.{most_segments}
 use Rattle.base.specs.Answer.{Answer, accepted, refused, pick}
 use Rattle.base.specs.declared.iomode.Iomode.{Iomode}
 use Rattle.segments.specs.declared.Right.{Right}
-use Rattle.segments.specs.declared.Right.TheVariants.{None, Granted, Recalled}
+use Rattle.segments.specs.declared.Right.TheVariants as right
 use Rattle.segments.specs.declared.Segment.{Segment}
 use Rattle.segments.specs.declared.Segments.{Segments}
 use Rattle.segments.specs.declared.Table.{Table}
 use Rattle.segments.specs.Segments.{READ, RW, acts_on, in_entries, list_of, same_right}
 use Rattle.table.specs.declared.change.Change.{Change}
 use Rattle.table.specs.declared.change.Change.TheVariants.{Grant, Clear, Recall}
-use Rattle.table.specs.declared.change.Edited.{Edited}
 
 -- ---- one segment more, after a list
 
@@ -45,19 +44,19 @@ after last s =
 
 -- "A recall turns granted into recalled and nothing else."
 abbrev pub recalled_of : Right → Right
-recalled_of None = None
-recalled_of (Granted s) = Recalled s
-recalled_of (Recalled s) = Recalled s
+recalled_of right.None = right.None
+recalled_of (right.Granted s) = right.Recalled s
+recalled_of (right.Recalled s) = right.Recalled s
 
 -- the right of a byte of the range after a change
 abbrev pub changed_right : Change → Right → Right
-changed_right (Grant s) r = Granted s
-changed_right Clear r = None
+changed_right (Grant s) r = right.Granted s
+changed_right Clear r = right.None
 changed_right Recall r = recalled_of r
 
 -- a part, unless it has come to none
 unfoldable pub unless_none : Segment → List Segment
-unless_none s = pick (same_right None s.right) [] (s ∷ [])
+unless_none s = pick (same_right right.None s.right) [] (s ∷ [])
 
 abbrev pub cut_inside : Change → ℕ → ℕ → Segment → Segment
 cut_inside c first last s = record {
@@ -78,28 +77,29 @@ parts g (s ∷ l) = g s ++ parts g l
 
 -- what is in the range afterwards: of a grant the whole range, of every other change the parts inside it, changed
 unfoldable pub middle : Change → ℕ → ℕ → List Segment → List Segment
-middle (Grant s) first last l = record { first = first; last = last; right = Granted s } ∷ []
+middle (Grant s) first last l = record { first = first; last = last; right = right.Granted s } ∷ []
 middle Clear first last l = parts (inside Clear first last) l
 middle Recall first last l = parts (inside Recall first last) l
 
 unfoldable pub edited : Change → ℕ → ℕ → List Segment → List Segment
 edited c first last l = push_all [] (parts (before first) l ++ (middle c first last l ++ parts (after last) l))
 
--- "more than 32 segments in an iomode": nothing is changed
-unfoldable pub edited_in : Change → ℕ → ℕ → Segments → Edited
+-- "more than 32 segments in an iomode": none
+unfoldable pub edited_in : Change → ℕ → ℕ → Segments → Option Segments
 edited_in c first last g =
     pick (leb (length (edited c first last (list_of g))) most_segments)
-    (record { segments = in_entries (edited c first last (list_of g)); fits = true })
-    (record { segments = g; fits = false })
+    (Some (in_entries (edited c first last (list_of g)))) None
 
 -- in an iomode that the event does not act on, nothing changes
-abbrev pub edited_where : Bool → Change → ℕ → ℕ → Segments → Edited
+abbrev pub edited_where : Bool → Change → ℕ → ℕ → Segments → Option Segments
 edited_where true c first last g = edited_in c first last g
-edited_where false c first last g = record { segments = g; fits = true }
+edited_where false c first last g = Some g
 
 -- "23 for either refuses the whole event"
-abbrev pub both_fit : Edited → Edited → Answer Table
-both_fit r w = pick (r.fits && w.fits) (accepted (record { read = r.segments; rw = w.segments })) (refused 23)
+abbrev pub both_fit : Option Segments → Option Segments → Answer Table
+both_fit (Some read) (Some rw) = accepted (record { read = read; rw = rw })
+both_fit (Some read) None = refused 23
+both_fit None w = refused 23
 
 unfoldable pub table_edited : Change → Iomode → ℕ → ℕ → Table → Answer Table
 table_edited c i first last t =

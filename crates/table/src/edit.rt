@@ -4,36 +4,23 @@ ghost use Rattle.segments.specs.Segments.{acts_on, mode_of};
 ghost use Rattle.table.specs.Edits.{edited_where};
 
 use crate::builder;
-use crate::change::{Change, Edited};
+use crate::change::Change;
 use segments::{Segments, Span};
 
-// `g` is the list with the number i.
-pub fn edit_list(g: Segments, i: u32, c: Change, s: Span) -> Edited
-    ensures { result ≡ edited_where (acts_on s.iomode (mode_of i)) c s.first s.last g }
+// `g` is the list with the number i. None where the edit needs more than 32 segments.
+pub fn edit_list(g: &Segments, i: u32, c: Change, s: Span) -> Option<Segments>
+    ensures { result ≡ edited_where (acts_on s.iomode (mode_of i)) c s.first s.last g.now }
 {
-    let iomode = s.iomode;
-    if !segments::acts_on(iomode, i) {
-        return Edited {
-            segments: g,
-            fits: true,
-        };
+    if !segments::acts_on(s.iomode, i) {
+        return Some(*g);
     }
-    let items = g.items;
-    let n = segments::used_entries(g.count);
-    let r = builder::build(items, n, c, s.first, s.last);
+    let r = builder::build(g.used(), c, s.first, s.last);
     if r.full {
-        return Edited {
-            segments: g,
-            fits: false,
-        };
+        return None;
     }
-    let made = r.items;
-    let segments = Segments {
-        items: made,
+    let items = r.items;
+    Some(Segments {
+        items,
         count: r.count,
-    };
-    Edited {
-        segments,
-        fits: true,
-    }
+    })
 }

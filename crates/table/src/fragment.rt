@@ -4,14 +4,7 @@ ghost use Rattle.table.specs.Edits.{after, before, changed_right, inside, unless
 ghost use Rattle.table.specs.Builders.{one_or_none};
 
 use crate::change::Change;
-use base::{larger, smaller};
 use segments::{Right, Segment};
-
-#[derive(Clone, Copy)]
-pub(crate) enum Fragment {
-    Nothing,
-    Some(Segment),
-}
 
 fn recalled(right: Right) -> Right
     ensures { result ≡ recalled_of right }
@@ -33,38 +26,41 @@ fn changed(c: Change, right: Right) -> Right
     }
 }
 
-fn keep(s: Segment) -> Fragment
+#[tactic(auto, unfolding(crate::specs::Edits::unless_none, base::specs::Answer::pick))]
+fn keep(s: Segment) -> Option<Segment>
     ensures { one_or_none result ≡ unless_none s }
 {
     let right = s.right;
     if segments::same_right(Right::None, right) {
-        return Fragment::Nothing;
+        return None;
     }
-    Fragment::Some(s)
+    Some(s)
 }
 
-pub(crate) fn fragment_before(s: Segment, first: u64) -> Fragment
+#[tactic(auto, unfolding(crate::specs::Edits::before, base::specs::Answer::pick))]
+pub(crate) fn fragment_before(s: Segment, first: u64) -> Option<Segment>
     ensures { one_or_none result ≡ before first s }
 {
     if s.first < first {
-        let last = smaller(s.last, first - 1);
+        let last = s.last.min(first - 1);
         let right = s.right;
-        return Fragment::Some(Segment {
+        return Some(Segment {
             first: s.first,
             last,
             right,
         });
     }
-    Fragment::Nothing
+    None
 }
 
-pub(crate) fn fragment_inside(s: Segment, c: Change, first: u64, last: u64) -> Fragment
+#[tactic(auto, unfolding(crate::specs::Edits::inside, base::specs::Answer::pick))]
+pub(crate) fn fragment_inside(s: Segment, c: Change, first: u64, last: u64) -> Option<Segment>
     ensures { one_or_none result ≡ inside c first last s }
 {
     if s.first <= last {
         if first <= s.last {
-            let from = larger(s.first, first);
-            let to = smaller(s.last, last);
+            let from = s.first.max(first);
+            let to = s.last.min(last);
             let held = s.right;
             let right = changed(c, held);
             return keep(Segment {
@@ -74,20 +70,21 @@ pub(crate) fn fragment_inside(s: Segment, c: Change, first: u64, last: u64) -> F
             });
         }
     }
-    Fragment::Nothing
+    None
 }
 
-pub(crate) fn fragment_after(s: Segment, last: u64) -> Fragment
+#[tactic(auto, unfolding(crate::specs::Edits::after, base::specs::Answer::pick))]
+pub(crate) fn fragment_after(s: Segment, last: u64) -> Option<Segment>
     ensures { one_or_none result ≡ after last s }
 {
     if last < s.last {
-        let first = larger(s.first, last + 1);
+        let first = s.first.max(last + 1);
         let right = s.right;
-        return Fragment::Some(Segment {
+        return Some(Segment {
             first,
             last: s.last,
             right,
         });
     }
-    Fragment::Nothing
+    None
 }

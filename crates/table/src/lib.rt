@@ -5,8 +5,6 @@ mod builder;
 mod change;
 mod edit;
 mod fragment;
-mod placement;
-mod step;
 
-pub use change::{Change, Edited};
+pub use change::Change;
 pub use edit::edit_list;

@@ -1,35 +1,30 @@
 // Where an I/O goes.
-use print::{print_fields, print_refused, print_text};
-use route::{Located, Piece};
+use base::Refusal;
+use print::Refused;
+use route::Piece;
 use segments::Table;
 use std::io;
 use std::io::Write;
 
-fn print_name(out: &mut impl Write, write: bool) -> io::Result<()> {
-    print_text(out, if write { b"write-at" } else { b"read-at" })
-}
-
 fn print_piece(out: &mut impl Write, p: Piece) -> io::Result<()> {
-    let values = [
-        base::iomode_number(p.iomode) as u64,
-        p.slot.0 as u64,
-        p.stripe.0 as u64,
+    write!(
+        out,
+        " iomode={} slot={} stripe={} offset={} length={} mirrors={}",
+        u32::from(p.iomode),
+        p.slot.0,
+        p.stripe.0,
         p.offset,
         p.length,
-        p.mirrors as u64,
-    ];
-    print_fields(
-        out,
-        b" iomode=# slot=# stripe=# offset=# length=# mirrors=#",
-        &values,
+        p.mirrors
     )
 }
 
-fn print_located(out: &mut impl Write, write: bool, l: Located) -> io::Result<()> {
-    print_name(out, write)?;
+fn print_located(out: &mut impl Write, write: bool, l: Result<Piece, Refusal>) -> io::Result<()> {
+    let name = if write { "write-at" } else { "read-at" };
+    write!(out, "{name}")?;
     match l {
-        Located::Refused(e) => print_refused(out, e),
-        Located::At(p) => print_piece(out, p),
+        Err(e) => write!(out, "{}", Refused(e)),
+        Ok(p) => print_piece(out, p),
     }
 }
 

@@ -1,33 +1,34 @@
 // The table.
-use print::{print_between, print_field, print_fields, print_text};
-use segments::{Right, Segment, Segments, Table};
-use std::io;
+use print::between;
+use segments::{Right, Segments, Table};
 use std::io::Write;
+use std::{fmt, io};
 
-fn print_right(out: &mut impl Write, r: Right) -> io::Result<()> {
-    match r {
-        Right::None => print_text(out, b"n"),
-        Right::Granted(s) => print_field(out, b"g", s.0 as u64),
-        Right::Recalled(s) => print_field(out, b"r", s.0 as u64),
+// A right, with the slot that it is for.
+#[derive(Drop)]
+struct Shown(Right);
+
+impl fmt::Display for Shown {
+    fn fmt<W: fmt::Write>(&self, f: &mut fmt::Formatter<W>) -> fmt::Result {
+        match self.0 {
+            Right::None => write!(f, "n"),
+            Right::Granted(s) => write!(f, "g{}", s.0),
+            Right::Recalled(s) => write!(f, "r{}", s.0),
+        }
     }
 }
 
-fn print_segment(out: &mut impl Write, s: Segment) -> io::Result<()> {
-    print_fields(out, b"#-#:", &[s.first, s.last])?;
-    print_right(out, s.right)
-}
-
 fn print_segments(out: &mut impl Write, g: &Segments) -> io::Result<()> {
-    for (i, segment) in g.items.iter().take(g.count).enumerate() {
-        print_between(out, b",", i)?;
-        print_segment(out, *segment)?;
+    for (i, s) in g.used().iter().enumerate() {
+        let right = Shown(s.right);
+        write!(out, "{}{}-{}:{right}", between(",", i), s.first, s.last)?;
     }
     Ok(())
 }
 
 pub fn print_table(out: &mut impl Write, t: &Table) -> io::Result<()> {
-    print_text(out, b"table read=")?;
+    write!(out, "table read=")?;
     print_segments(out, &t.read)?;
-    print_text(out, b" rw=")?;
+    write!(out, " rw=")?;
     print_segments(out, &t.rw)
 }

@@ -1,8 +1,8 @@
 // A binding. The payload has: mirror, stripe, supported versions, device id, layout length, layout body, device body.
 use crate::arrays::id_at;
-use base::{MirrorNumber, StripeNumber};
-use binding::{Binding, Bound};
-use print::{print_field, print_fields, print_refused, print_text};
+use base::{MirrorNumber, Refusal, StripeNumber};
+use binding::Bound;
+use print::Refused;
 use std::io;
 use std::io::Write;
 
@@ -11,44 +11,39 @@ const LAYOUT_AT: usize = 32;
 
 // The entry that was chosen, and the filehandle.
 fn print_entry(out: &mut impl Write, b: &Bound) -> io::Result<()> {
-    let values = [
-        b.entry as u64,
-        b.version.version as u64,
-        b.version.minor as u64,
-        b.filehandle.start as u64,
-        b.filehandle.len as u64,
-    ];
-    print_fields(out, b" entry=# version=#.# filehandle=#+#", &values)
+    write!(
+        out,
+        " entry={} version={}.{} filehandle={}+{}",
+        b.entry, b.version.version, b.version.minor, b.filehandle.start, b.filehandle.len
+    )
 }
 
 fn print_names(out: &mut impl Write, b: &Bound) -> io::Result<()> {
-    let values = [
-        b.user.start as u64,
-        b.user.len as u64,
-        b.group.start as u64,
-        b.group.len as u64,
-    ];
-    print_fields(out, b" user=#+# group=#+#", &values)
+    write!(
+        out,
+        " user={}+{} group={}+{}",
+        b.user.start, b.user.len, b.group.start, b.group.len
+    )
 }
 
 fn print_bound(out: &mut impl Write, b: &Bound) -> io::Result<()> {
     print_entry(out, b)?;
     if b.version.tight {
-        return print_field(out, b" stateid=", b.stateid as u64);
+        return write!(out, " stateid={}", b.stateid);
     }
     print_names(out, b)
 }
 
-fn print_binding(out: &mut impl Write, b: Binding) -> io::Result<()> {
-    print_text(out, b"bind")?;
+fn print_binding(out: &mut impl Write, b: Result<Bound, Refusal>) -> io::Result<()> {
+    write!(out, "bind")?;
     match b {
-        Binding::Refused(e) => print_refused(out, e),
-        Binding::Value(v) => print_bound(out, &v),
+        Err(e) => write!(out, "{}", Refused(e)),
+        Ok(v) => print_bound(out, &v),
     }
 }
 
 // What a layout body and a device body are bound to.
-fn bind(payload: &[u8], layout: &[u8], device: &[u8]) -> Binding {
+fn bind(payload: &[u8], layout: &[u8], device: &[u8]) -> Result<Bound, Refusal> {
     let mirror = MirrorNumber(octets::le4(payload, 0));
     let stripe = StripeNumber(octets::le4(payload, 4));
     let supported = octets::le4(payload, 8);

@@ -1,70 +1,62 @@
 // A device body.
-use device::{Address, DeviceAnswer, NetidClass, Version};
-use print::{print_between, print_fault, print_fields, print_text};
+use base::Refusal;
+use device::{Address, NetidClass, Version};
+use print::{Refused, between};
 use std::io;
 use std::io::Write;
 
-fn is_of_six(class: &NetidClass) -> bool {
-    matches!(
-        class,
-        NetidClass::Tcp6 | NetidClass::Udp6 | NetidClass::Rdma6
-    )
-}
-
-fn print_class(out: &mut impl Write, class: &NetidClass) -> io::Result<()> {
+fn class_name(class: &NetidClass) -> &'static str {
     match class {
-        NetidClass::Tcp | NetidClass::Tcp6 => print_text(out, b"tcp"),
-        NetidClass::Udp | NetidClass::Udp6 => print_text(out, b"udp"),
-        NetidClass::Rdma | NetidClass::Rdma6 => print_text(out, b"rdma"),
-        NetidClass::Other => print_text(out, b"other"),
+        NetidClass::Tcp => "tcp",
+        NetidClass::Tcp6 => "tcp6",
+        NetidClass::Udp => "udp",
+        NetidClass::Udp6 => "udp6",
+        NetidClass::Rdma => "rdma",
+        NetidClass::Rdma6 => "rdma6",
+        NetidClass::Other => "other",
     }
-}
-
-fn print_address(out: &mut impl Write, a: &Address) -> io::Result<()> {
-    print_class(out, &a.class)?;
-    if is_of_six(&a.class) {
-        print_text(out, b"6")?;
-    }
-    print_fields(out, b":#+#", &[a.text.start as u64, a.text.len as u64])
 }
 
 fn print_addresses(out: &mut impl Write, addresses: &[Address], count: u32) -> io::Result<()> {
-    for (i, address) in addresses.iter().take(count as usize).enumerate() {
-        print_between(out, b",", i)?;
-        print_address(out, address)?;
+    for (i, a) in addresses.iter().take(count as usize).enumerate() {
+        let class = class_name(&a.class);
+        write!(
+            out,
+            "{}{class}:{}+{}",
+            between(",", i),
+            a.text.start,
+            a.text.len
+        )?;
     }
     Ok(())
 }
 
-fn print_version(out: &mut impl Write, v: &Version) -> io::Result<()> {
-    let values = [
-        v.version as u64,
-        v.minor as u64,
-        v.rsize as u64,
-        v.wsize as u64,
-        v.tight as u64,
-    ];
-    print_fields(out, b"#.#:#:#:#", &values)
-}
-
 fn print_versions(out: &mut impl Write, versions: &[Version], count: u32) -> io::Result<()> {
-    for (i, version) in versions.iter().take(count as usize).enumerate() {
-        print_between(out, b",", i)?;
-        print_version(out, version)?;
+    for (i, v) in versions.iter().take(count as usize).enumerate() {
+        write!(
+            out,
+            "{}{}.{}:{}:{}:{}",
+            between(",", i),
+            v.version,
+            v.minor,
+            v.rsize,
+            v.wsize,
+            u32::from(v.tight)
+        )?;
     }
     Ok(())
 }
 
 pub fn print_device(out: &mut impl Write, payload: &[u8]) -> io::Result<()> {
     let got = device::read_device(payload);
-    print_text(out, b"device")?;
+    write!(out, "device")?;
     match got.answer {
-        DeviceAnswer::Refused(e) => print_fault(out, e),
-        DeviceAnswer::Counts(m, k) => {
-            print_text(out, b" addresses=")?;
-            print_addresses(out, &got.addresses, m)?;
-            print_text(out, b" versions=")?;
-            print_versions(out, &got.versions, k)
+        Err(e) => write!(out, "{}", Refused(Refusal::from(e))),
+        Ok(counts) => {
+            write!(out, " addresses=")?;
+            print_addresses(out, &got.addresses, counts.addresses)?;
+            write!(out, " versions=")?;
+            print_versions(out, &got.versions, counts.versions)
         }
     }
 }

@@ -1,9 +1,11 @@
 // Error reports that are written. The payload has: output length, report count, reports, list length, errors.
 use crate::arrays::id_at;
 use crate::form::{LONGEST_REPORT_OUTPUT, error_list_at, list_end};
-use base::{DEVICE_ID_SIZE, ERROR_LIST_SIZE, ERROR_SIZE, REPORT_ENTRIES, REPORT_HEAD_SIZE};
-use print::{print_field, print_hex, print_refused, print_text};
-use report::{ReportHead, Written};
+use base::{
+    DEVICE_ID_SIZE, ERROR_LIST_SIZE, ERROR_SIZE, REPORT_ENTRIES, REPORT_HEAD_SIZE, Refusal,
+};
+use print::{Hex, Refused};
+use report::ReportHead;
 use std::io;
 use std::io::Write;
 
@@ -58,24 +60,18 @@ pub(crate) fn list_length(payload: &[u8]) -> usize {
     octets::le4(payload, error_list_at(octets::le4(payload, 4))) as usize
 }
 
-fn print_written(out: &mut impl Write, w: Written) -> io::Result<()> {
-    match w {
-        Written::Length(n) => print_field(out, b" length=", n as u64),
-        Written::Refused(e) => print_refused(out, e),
-    }
-}
-
 // The case's name, the answer and the whole output.
 pub(crate) fn print_answer(
     out: &mut impl Write,
-    name: &[u8],
-    w: Written,
+    name: &str,
+    w: Result<usize, Refusal>,
     output: &[u8],
 ) -> io::Result<()> {
-    print_text(out, name)?;
-    print_written(out, w)?;
-    print_text(out, b" output=")?;
-    print_hex(out, output)
+    match w {
+        Ok(n) => write!(out, "{name} length={n}")?,
+        Err(e) => write!(out, "{name}{}", Refused(e))?,
+    }
+    write!(out, " output={}", Hex(output))
 }
 
 fn print_output(
@@ -87,7 +83,7 @@ fn print_output(
     output: &mut [u8],
 ) -> io::Result<()> {
     let w = report::write_reports(count, heads, errors, records, output);
-    print_answer(out, b"report-write", w, output)
+    print_answer(out, "report-write", w, output)
 }
 
 pub fn print_report_write(out: &mut impl Write, payload: &[u8]) -> io::Result<()> {

@@ -26,7 +26,7 @@ fn print_output(
     output: &mut [u8],
 ) -> io::Result<()> {
     let w = report::write_return(outgoing, errors, entries, output);
-    print_answer(out, b"return-write", w, output)
+    print_answer(out, "return-write", w, output)
 }
 
 fn print_writing(

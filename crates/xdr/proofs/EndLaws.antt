@@ -7,16 +7,6 @@ use Rattle.xdr.specs.Parsed.{Parsed, ok, fault, then, many_at, end_of}
 use Rattle.xdr.proofs.ManyLaws.{first_then, none_then, refused_then}
 
 -- what follows goes by the offset alone
-pub end_then : {A B : Type 0} (x : Parsed A) (f : ℕ → Parsed B) (p : ℕ) → end_of x ≡ ok tt p → then x (λ a q. f q) ≡ f p
-unfolding end_of then
-end_then (ok a q) f p e = let h : q ≡ p = cc in rw h
-end_then (fault n) f p e = let z : ◌≡◌ {A = ℕ} 0 1 = cc in absurd (omega arith)
-
-pub end_refused : {A B : Type 0} (x : Parsed A) (f : A → ℕ → Parsed B) (n : ℕ) → end_of x ≡ fault n → then x f ≡ fault n
-unfolding end_of then
-end_refused (ok a q) f n e = let z : ◌≡◌ {A = ℕ} 0 1 = cc in absurd (omega arith)
-end_refused (fault m) f n e = let h : m ≡ n = cc in rw h
-
 pub end_goes_on : {A B : Type 0} (x : Parsed A) (f : ℕ → Parsed B) → then (end_of x) (λ u q. f q) ≡ then x (λ a q. f q)
 unfolding end_of then
 end_goes_on (ok a q) f = refl

@@ -1,18 +1,14 @@
 // XDR items, read off a slice at a cursor.
 #![tactic(auto)]
 
-mod end;
 mod item;
 mod number;
 mod range;
 
-pub use end::{ReadEnd, fault_of_end};
-pub use item::{
-    ReadBool, ReadPart, fault_of_bool, fault_of_part, read_bool, read_bytes, read_count,
-    read_opaque,
-};
-pub use number::{ReadU32, ReadU64, fault_of_u32, fault_of_u64, read_u32, read_u64};
-pub use range::{Range, ReadRange, fault_of_range, read_range};
+use base::Fault;
+pub use item::{read_bool, read_bytes, read_count, read_opaque};
+pub use number::{read_u32, read_u64};
+pub use range::{Range, read_range};
 
 // The offset of the next item.
 #[derive(Clone, Copy)]
@@ -26,3 +22,6 @@ pub struct Part {
     pub start: usize,
     pub len: usize,
 }
+
+// What a reader of an item answers: the item and the offset after it, or the first fault met.
+pub type Read<T> = Result<(T, Cursor), Fault>;

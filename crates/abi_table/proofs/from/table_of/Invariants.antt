@@ -1,4 +1,3 @@
-use Prim.Native.Nat.{◌-◌, ◌≤◌}
 use Rattle.abi_table.proofs.RecordLaws.{Made}
 use lib.ListN.{length}
 use mathlib.Core.Path.{◌≡◌}
@@ -6,8 +5,5 @@ use Rattle.abi_table.proofs.from.table_of.Given as goal
 
 abbrev pub invariant-loop-i : goal.invariant-loop-i
 invariant-loop-i l =
-    (l.i ≤ 32) × (length l.read.items ≡ 32) × (length l.rw.items ≡ 32) × Made l.r.read l.read.items l.i × Made l.r.rw l.rw.items l.i
+    (length l.read.items ≡ 32) × (length l.rw.items ≡ 32) × Made l.r.read l.read.items l.i × Made l.r.rw l.rw.items l.i
     × (l.read.count ≡ l.r.read_count) × (l.rw.count ≡ l.r.rw_count)
-
-abbrev pub decreases-loop-i : goal.decreases-loop-i
-decreases-loop-i l = 32 - l.i

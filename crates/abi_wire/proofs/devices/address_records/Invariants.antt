@@ -1,5 +1,4 @@
--- `abi_wire::devices::address_records` meets its contract. The loop's invariant: the entries made are those of the ones passed. The measure is how many are left.
-use Prim.Native.Nat.{◌-◌, ◌≤◌}
+-- `abi_wire::devices::address_records` meets its contract. The loop's invariant: the entries made are those of the ones passed.
 use Rattle.abi_wire.specs.DeviceResults.{address_record}
 use lib.ListN.{length, take}
 use mathlib.Core.List.{map}
@@ -7,7 +6,4 @@ use mathlib.Core.Path.{◌≡◌}
 use Rattle.abi_wire.proofs.devices.address_records.Given as goal
 
 abbrev pub invariant-loop-i : goal.invariant-loop-i
-invariant-loop-i l = (l.i ≤ 8) × (length l.made ≡ 8) × (take l.i l.made ≡ map address_record (take l.i l.items))
-
-abbrev pub decreases-loop-i : goal.decreases-loop-i
-decreases-loop-i l = 8 - l.i
+invariant-loop-i l = (length l.made ≡ 8) × (take l.i l.made ≡ map address_record (take l.i l.items))

@@ -1,37 +1,24 @@
--- `lookup::named::mark_all` meets its contract. The loop's invariant: the segments passed are marked, and those that are left finish the work. The
--- measure is how many entries are left.
-use Prim.Native.Nat.{◌+◌, min}
-use Rattle.base.proofs.ListLaws.{mapped_long}
-use Rattle.lookup.proofs.LookupLaws.{length_used}
+-- `lookup::named::mark_all` meets its contract. The loop's invariant: the segments passed are marked, and those that are left finish the work.
+use Rattle.std.proofs.Common.{◌+◌, drop, get_or, Bool, false, ◌||◌, sym, ap, ◌∙◌, arith}
 use Rattle.lookup.proofs.NamedLaws.{marked_all, marked_next}
-use Rattle.segments.specs.Segments.{any_names, blank, list_of}
-use borrow.Author.Rules.{rules}
-use lib.ListN.{length, drop, get_or}
-use mathlib.Core.Bool.{Bool, false, ◌||◌}
-use mathlib.Core.Path.{◌≡◌, sym, ap, ◌∙◌}
-use native.Mathlib.Omega.{arith}
+use Rattle.segments.specs.Segments.{any_names, blank}
 use Rattle.lookup.proofs.named.mark_all.Goals as goal
 
-pub loop-k-preserved : goal.loop-k-preserved
-loop-k-preserved c =
-    let l = c.loop-k in
-    let g = c.args.g in
-    let h : length g.items ≡ 32 = search (rules, mapped_long) in
-    let e : length (list_of g) ≡ min g.count 32 = length_used g h in (
-      omega arith,
+pub loop-s-preserved : goal.loop-s-preserved
+loop-s-preserved c =
+    let l = c.loop-s in
+    let items = c.used-all.result.now in (
       c.mark.ensures.size,
-      λ i b. l.invariant.2 i b
-          ∙ (marked_next i g l.k blank (get_or l.named i false) (omega arith)
-          ∙ ap (λ (x : Bool). any_names i (drop (l.k + 1) (list_of g)) || x) (sym (c.mark.ensures.marks i b))),
+      λ i b. l.invariant.1 i b
+          ∙ (marked_next i items l.s-index blank (get_or l.named i false) (omega arith)
+          ∙ ap (λ (x : Bool). any_names i (drop (l.s-index + 1) items) || x) (sym (c.mark.ensures.marks i b))),
     )
 
 pub returns : goal.returns
 returns c =
-    let l = c.loop-k in
-    let g = c.args.g in
-    let h : length g.items ≡ 32 = search (rules, mapped_long) in
-    let e : length (list_of g) ≡ min g.count 32 = length_used g h in
+    let l = c.loop-s in
+    let items = c.used-all.result.now in
     record {
-      size = l.invariant.1;
-      marks = λ i b. sym (l.invariant.2 i b ∙ marked_all i g l.k (get_or l.named i false) (omega arith));
+      size = l.invariant.0;
+      marks = λ i b. rw (← c.used-all.ensures) (sym (l.invariant.1 i b ∙ marked_all i items l.s-index (get_or l.named i false) (omega arith)));
     }

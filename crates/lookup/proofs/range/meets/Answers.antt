@@ -1,4 +1,4 @@
--- `lookup::range::meets` meets its contract. The loop's invariant: no list that is passed meets. The measure is how many are left.
+-- `lookup::range::meets` meets its contract. The loop's invariant: no list that is passed meets.
 use Rattle.lookup.specs.Lookup.{satisfies, table_meets}
 use Rattle.lookup.specs.declared.range.Condition.{Condition}
 use Rattle.segments.proofs.ModeLaws.{neither_is, one_is}
@@ -27,4 +27,4 @@ pub returns : goal.returns
 unfolding table_meets
 returns c =
     let a = c.args in
-    sym (neither_is (test a.t a.s a.c) c.loop-i.i c.loop-i.invariant.1 (omega arith))
+    sym (neither_is (test a.t a.s a.c) c.loop-i.i c.loop-i.invariant (omega arith))

@@ -1,4 +1,3 @@
-use Prim.Native.Nat.{◌-◌, ◌≤◌}
 use Rattle.lookup.specs.Lookup.{satisfies}
 use Rattle.lookup.specs.declared.range.Condition.{Condition}
 use Rattle.segments.proofs.ModeLaws.{PassedTo}
@@ -12,7 +11,4 @@ abbrev pub test : Table → Span → Condition → Mode → Bool
 test t s c m = acts_on s.iomode m && any_meets (satisfies c) s.first s.last (list_in t m)
 
 abbrev pub invariant-loop-i : goal.invariant-loop-i
-invariant-loop-i l = (l.i ≤ 2) × PassedTo (test l.t l.s l.c) false l.i
-
-abbrev pub decreases-loop-i : goal.decreases-loop-i
-decreases-loop-i l = 2 - l.i
+invariant-loop-i l = PassedTo (test l.t l.s l.c) false l.i

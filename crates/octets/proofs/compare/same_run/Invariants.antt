@@ -1,10 +1,7 @@
-use Prim.Native.Nat.{◌-◌, ◌≤◌}
-use Rattle.octets.specs.Numbers.{bytes_from, same_bytes}
+use Rattle.octets.specs.Numbers.{same_bytes}
+use lib.ListN.{length, take}
 use mathlib.Core.Path.{◌≡◌}
 use Rattle.octets.proofs.compare.same_run.Given as goal
 
-abbrev pub invariant-loop-i : goal.invariant-loop-i
-invariant-loop-i l = (l.i ≤ l.n) × (l.z ≡ same_bytes (bytes_from l.i l.s l.at) (bytes_from l.i l.t l.at))
-
-abbrev pub decreases-loop-i : goal.decreases-loop-i
-decreases-loop-i l = l.n - l.i
+abbrev pub invariant-loop-x : goal.invariant-loop-x
+invariant-loop-x l = l.z ≡ same_bytes (take (length l.yielded) l.s) (take (length l.yielded) l.t)

@@ -1,10 +1,8 @@
-use Prim.Native.Nat.{◌-◌, ◌≤◌}
-use Rattle.octets.specs.Numbers.{all_zero, bytes_from}
+use Rattle.octets.specs.Numbers.{all_zero}
+use lib.Dec.{eqb}
+use lib.ListN.{take}
 use mathlib.Core.Path.{◌≡◌}
 use Rattle.octets.proofs.zero.zero_run.Given as goal
 
-abbrev pub invariant-loop-i : goal.invariant-loop-i
-invariant-loop-i l = (l.i ≤ l.n) × (l.z ≡ all_zero (bytes_from l.i l.s l.at))
-
-abbrev pub decreases-loop-i : goal.decreases-loop-i
-decreases-loop-i l = l.n - l.i
+abbrev pub invariant-loop-byte : goal.invariant-loop-byte
+invariant-loop-byte l = eqb l.bits 0 ≡ all_zero (take l.byte-index l.s)

@@ -1,50 +1,36 @@
 -- `report::check::check_reports` meets its contract. The loop's invariant: the reports passed are allowed, so the heads left and the entries that they
--- use decide; the entries passed are at most 16 of 24 bytes for each report. The measure is how many heads are left.
-use Prim.Native.Nat.{◌+◌, ◌-◌, ◌<◌}
+-- use decide; the entries passed are at most 16 of 24 bytes for each report.
+use Rattle.std.proofs.Common.{◌<◌, length, drop, sym, ◌∙◌, arith}
+use Rattle.std.proofs.lemmas.Grind.{common_steps}
 use Rattle.base.specs.Answer.{given}
 use Rattle.report.proofs.EntryLaws.{allowed, checked_next, checked_none}
-use Rattle.base.specs.Checks.{answer_of_check}
 use Rattle.report.specs.Writing.{counts, entries_at}
-use Rattle.xdr.proofs.Steps.{by_case}
-use lib.ListN.{length, take, drop}
-use mathlib.Core.Path.{◌≡◌}
-use native.Mathlib.Omega.{arith}
 use Rattle.report.proofs.check.check_reports.Goals as goal
 
-pub returns-in_default : goal.returns-in_default
+pub returns-in_err-check_report : goal.returns-in_err-check_report
 unfolding given
-returns-in_default c =
-    let l = c.loop-i in
-    let n = c.args.count in
-    let hs = c.args.heads in
-    let h : l.i < length hs = omega arith in
-    let m : 0 < n - l.i = omega arith in
-    rw (
-      l.invariant.4,
-      checked_next hs l.i (n - l.i) c.args.errors.now l.from h m,
-      by_case answer_of_check c.check_report-r.ensures c.in_default.is,
-      c.in_default.is,
-    )
+returns-in_err-check_report c =
+    let l = c.loop-report in
+    let hs = c.args.heads.now in
+    let h : l.report-index < length hs = omega arith in
+    let next = checked_next hs l.report-index c.args.errors.now l.from h in
+    let bad = l.invariant.2 ∙ rw (← c.in_err-check_report.ensures) at next in
+    grind (arith, common_steps, bad)
 
-pub loop-i-preserved : goal.loop-i-preserved
+pub loop-report-preserved : goal.loop-report-preserved
 unfolding given
-loop-i-preserved c =
-    let l = c.loop-i in
-    let n = c.args.count in
-    let hs = c.args.heads in
-    let e : n - (l.i + 1) ≡ n - l.i - 1 = omega arith in
-    let h : l.i < length hs = omega arith in
-    let m : 0 < n - l.i = omega arith in
-    let k = by_case answer_of_check c.check_report-r.ensures c.in-Allowed.is in (
-      omega arith,
-      l.invariant.1,
-      omega (arith, l.invariant.2, (allowed _ _ k).few),
-      l.invariant.3,
-      rw (e, l.invariant.4, checked_next hs l.i (n - l.i) c.args.errors.now l.from h m, k),
+loop-report-preserved c =
+    let l = c.loop-report in
+    let hs = c.args.heads.now in
+    let h : l.report-index < length hs = omega arith in
+    let k = sym c.in_ok-check_report.ensures in (
+      l.invariant.0,
+      omega (arith, l.invariant.1, (allowed _ _ k).few),
+      rw (l.invariant.2, checked_next hs l.report-index c.args.errors.now l.from h, k),
     )
 
 pub returns : goal.returns
 returns c =
-    let l = c.loop-i in
-    let n = c.args.count in
-    rw (l.invariant.4, checked_none c.args.heads l.i (n - l.i) (entries_at (counts (take (n - l.i) (drop l.i c.args.heads))) c.args.errors.now l.from) (omega arith))
+    let l = c.loop-report in
+    let hs = c.args.heads.now in
+    rw (l.invariant.2, checked_none hs l.report-index (entries_at (counts (drop l.report-index hs)) c.args.errors.now l.from) (omega arith))

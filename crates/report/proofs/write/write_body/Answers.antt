@@ -1,56 +1,51 @@
 -- `report::write::write_body` meets its contract: every test, then the bytes.
 use Prim.Native.Nat.{◌≤◌, ◌<◌}
-use Rattle.base.specs.Refusals.{fault_number}
 use Rattle.report.proofs.StoringLaws.{body_stored, fits, list_refused, many_refused, body_allowed, reports_refused, sizes, tail_refused, too_short, written_accepted, written_refused}
-use Rattle.base.specs.Checks.{answer_of_check}
+use Rattle.base.specs.Results.{answer_of}
 use Rattle.report.specs.Writing.{body_bytes, counts, entries_at}
-use Rattle.xdr.proofs.Steps.{by_case, refusal_up}
+use Rattle.std.proofs.lemmas.Grind.{common_steps}
 use lib.ListN.{length, take}
-use mathlib.Core.Path.{refl, sym, ◌∙◌}
+use lib.Seq.{length-take-le}
+use mathlib.Core.Path.{◌≡◌, sym, ap, ◌∙◌}
 use native.Mathlib.Omega.{arith}
 use Rattle.report.proofs.write.write_body.Goals as goal
 
 pub returns-then-count-gt-MOST_REPORTS : goal.returns-then-count-gt-MOST_REPORTS
 returns-then-count-gt-MOST_REPORTS c =
     let a = c.args in
-    written_refused a.out.now _ 8 (many_refused a.count a.heads (entries_at a.list_length a.errors.now 0) (answer_of_check a.checked) a.tail.now (length a.out.now) c.if-count-gt-MOST_REPORTS.true)
+    written_refused a.out.now _ 8 (many_refused a.count a.heads (entries_at a.list_length a.errors.now 0) (answer_of a.checked) a.tail.now (length a.out.now) c.if-count-gt-MOST_REPORTS.true)
 
 pub returns-then-total-list_length : goal.returns-then-total-list_length
 returns-then-total-list_length c =
     let a = c.args in
     written_refused a.out.now _ 8
-    (list_refused a.count a.heads a.list_length a.errors.now (answer_of_check a.checked) a.tail.now
+    (list_refused a.count a.heads a.list_length a.errors.now (answer_of a.checked) a.tail.now
     (length a.out.now) c.if-count-gt-MOST_REPORTS.false (λ e. c.if-total-list_length.true (c.total.ensures.sum ∙ e)))
 
-pub returns-in_default : goal.returns-in_default
-returns-in_default c =
+pub returns-in_err-check_reports : goal.returns-in_err-check_reports
+returns-in_err-check_reports c =
     let a = c.args in
     let q = sym (sym c.total.ensures.sum ∙ c.if-total-list_length.false) in
-    let j = refusal_up answer_of_check c.check_reports-j.ensures c.in_default.is
-    c.fault_of_check.ensures refl in
-    written_refused a.out.now _ (fault_number c.fault_of_check.result)
-    (reports_refused a.count a.heads a.list_length a.errors.now (answer_of_check a.checked) a.tail.now (length a.out.now)
-    c.if-count-gt-MOST_REPORTS.false q _ j)
+    let w = written_refused a.out.now _ _
+    (reports_refused a.count a.heads a.list_length a.errors.now (answer_of a.checked) a.tail.now (length a.out.now)
+    c.if-count-gt-MOST_REPORTS.false q _ (sym c.in_err-check_reports.ensures)) in
+    grind (arith, common_steps, w)
 
-pub returns-in_default-checked : goal.returns-in_default-checked
-returns-in_default-checked c =
+pub returns-in_err-checked : goal.returns-in_err-checked
+returns-in_err-checked c =
     let a = c.args in
-    let total = c.total.ensures in
-    let q = sym (sym total.sum ∙ c.if-total-list_length.false) in
-    let j = by_case answer_of_check c.check_reports-j.ensures c.in-Allowed.is in
-    let z = sizes a.count a.heads a.list_length a.errors.now a.tail.now
-    c.if-count-gt-MOST_REPORTS.false c.well_formed.1.0.1.0.1 q total.stateids j in
-    let k = refusal_up answer_of_check refl c.in_default-checked.is c.fault_of_check-in_default-checked.ensures refl in
-    written_refused a.out.now _ (fault_number c.fault_of_check-in_default-checked.result)
-    (tail_refused a.count a.heads a.list_length a.errors.now (answer_of_check a.checked) a.tail.now (length a.out.now)
-    c.if-count-gt-MOST_REPORTS.false q j _ k)
+    let q = sym (sym c.total.ensures.sum ∙ c.if-total-list_length.false) in
+    let w = written_refused a.out.now _ _
+    (tail_refused a.count a.heads a.list_length a.errors.now (answer_of a.checked) a.tail.now (length a.out.now)
+    c.if-count-gt-MOST_REPORTS.false q (sym c.in_ok-check_reports.ensures) _ (ap answer_of c.in_err-checked.was)) in
+    grind (arith, common_steps, w)
 
 pub overflow_mul-before-2 : goal.overflow_mul-before-2
 overflow_mul-before-2 c =
     let a = c.args in
     let total = c.total.ensures in
     let q = sym (sym total.sum ∙ c.if-total-list_length.false) in
-    let j = by_case answer_of_check c.check_reports-j.ensures c.in-Allowed.is in
+    let j = sym c.in_ok-check_reports.ensures in
     let z = sizes a.count a.heads a.list_length a.errors.now a.tail.now
     c.if-count-gt-MOST_REPORTS.false c.well_formed.1.0.1.0.1 q total.stateids j in
     omega (arith, z.few)
@@ -60,7 +55,7 @@ overflow_add-before-2 c =
     let a = c.args in
     let total = c.total.ensures in
     let q = sym (sym total.sum ∙ c.if-total-list_length.false) in
-    let j = by_case answer_of_check c.check_reports-j.ensures c.in-Allowed.is in
+    let j = sym c.in_ok-check_reports.ensures in
     let z = sizes a.count a.heads a.list_length a.errors.now a.tail.now
     c.if-count-gt-MOST_REPORTS.false c.well_formed.1.0.1.0.1 q total.stateids j in
     omega (arith, z.few, c.if-count-gt-MOST_REPORTS.false)
@@ -70,7 +65,7 @@ overflow_add-size c =
     let a = c.args in
     let total = c.total.ensures in
     let q = sym (sym total.sum ∙ c.if-total-list_length.false) in
-    let j = by_case answer_of_check c.check_reports-j.ensures c.in-Allowed.is in
+    let j = sym c.in_ok-check_reports.ensures in
     let z = sizes a.count a.heads a.list_length a.errors.now a.tail.now
     c.if-count-gt-MOST_REPORTS.false c.well_formed.1.0.1.0.1 q total.stateids j in
     omega (arith, z.few, c.if-count-gt-MOST_REPORTS.false, c.well_formed.1.1.1.1.1.0.1)
@@ -80,7 +75,7 @@ returns-then-out-size c =
     let a = c.args in
     let total = c.total.ensures in
     let q = sym (sym total.sum ∙ c.if-total-list_length.false) in
-    let j = by_case answer_of_check c.check_reports-j.ensures c.in-Allowed.is in
+    let j = sym c.in_ok-check_reports.ensures in
     let z = sizes a.count a.heads a.list_length a.errors.now a.tail.now
     c.if-count-gt-MOST_REPORTS.false c.well_formed.1.0.1.0.1 q total.stateids j in
     let l = a.out.now in
@@ -88,9 +83,9 @@ returns-then-out-size c =
     let es = entries_at (counts hs) a.errors.now 0 in
     let bs = body_bytes hs es a.tail.now in
     let n : length l < length bs = omega (arith, z.body, c.if-out-size.true) in
-    let k = by_case answer_of_check refl c.in-Allowed-checked.is in
+    let k = ap answer_of c.in_ok-checked.was in
     written_refused l _ 26
-    (body_allowed a.count a.heads a.list_length a.errors.now (answer_of_check a.checked) a.tail.now (length l)
+    (body_allowed a.count a.heads a.list_length a.errors.now (answer_of a.checked) a.tail.now (length l)
     c.if-count-gt-MOST_REPORTS.false q j k ∙ too_short bs _ n)
 
 pub put_reports-requires : goal.put_reports-requires
@@ -98,11 +93,12 @@ put_reports-requires c =
     let a = c.args in
     let total = c.total.ensures in
     let q = sym (sym total.sum ∙ c.if-total-list_length.false) in
-    let j = by_case answer_of_check c.check_reports-j.ensures c.in-Allowed.is in
+    let j = sym c.in_ok-check_reports.ensures in
     let z = sizes a.count a.heads a.list_length a.errors.now a.tail.now
-    c.if-count-gt-MOST_REPORTS.false c.well_formed.1.0.1.0.1 q total.stateids j in (
-      c.if-count-gt-MOST_REPORTS.false,
-      omega (arith, c.put_be4.auto.buf, z.few, z.body, q, c.if-out-size.false),
+    c.if-count-gt-MOST_REPORTS.false c.well_formed.1.0.1.0.1 q total.stateids j in
+    let n : length (take a.count a.heads) ≡ a.count = length-take-le a.count a.heads (omega (arith, c.well_formed.1.0.1.0.1, c.if-count-gt-MOST_REPORTS.false)) in (
+      omega (arith, n, c.if-count-gt-MOST_REPORTS.false),
+      omega (arith, n, c.put_be4.auto.buf, z.few, z.body, q, c.if-out-size.false),
       z.inside,
     )
 
@@ -111,7 +107,7 @@ returns c =
     let a = c.args in
     let total = c.total.ensures in
     let q = sym (sym total.sum ∙ c.if-total-list_length.false) in
-    let j = by_case answer_of_check c.check_reports-j.ensures c.in-Allowed.is in
+    let j = sym c.in_ok-check_reports.ensures in
     let z = sizes a.count a.heads a.list_length a.errors.now a.tail.now
     c.if-count-gt-MOST_REPORTS.false c.well_formed.1.0.1.0.1 q total.stateids j in
     let l = a.out.now in
@@ -119,9 +115,9 @@ returns c =
     let es = entries_at (counts hs) a.errors.now 0 in
     let bs = body_bytes hs es a.tail.now in
     let n : length bs ≤ length l = omega (arith, z.body, c.if-out-size.false) in
-    let k = by_case answer_of_check refl c.in-Allowed-checked.is in
+    let k = ap answer_of c.in_ok-checked.was in
     written_accepted l _ _ bs _
-    (body_allowed a.count a.heads a.list_length a.errors.now (answer_of_check a.checked) a.tail.now (length l)
+    (body_allowed a.count a.heads a.list_length a.errors.now (answer_of a.checked) a.tail.now (length l)
     c.if-count-gt-MOST_REPORTS.false q j k ∙ fits bs (length l) n) (sym z.body)
     (rw (
       c.put_bytes.ensures,

@@ -13,19 +13,18 @@ returns-then-write c =
     let a = c.args in
     λ s. c.grant_in-h.ensures ∙ sym (write_grant a.t a.store.now s a.write a.x c.if-write.true)
 
-pub returns-in-Value : goal.returns-in-Value
-returns-in-Value c =
+pub returns-in-Some : goal.returns-in-Some
+returns-in-Some c =
     let a = c.args in
-    let found = c.grant_for_reads-g.ensures ∙ ap (grant_for_reads a.store.now) c.grant_in-h.ensures in
-    let e = by_case answer_of_grant found c.in-Value.is in
+    let found = c.grant_for_reads.ensures ∙ ap (grant_for_reads a.store.now) c.grant_in-h.ensures in
+    let e = by_case answer_of_grant found c.in-Some.is in
     λ s.
-    found ∙ e
-    ∙ sym (read_grant a.t a.store.now s a.write a.x c.if-write.false ∙ ap (λ (x : Answer Grant). or_else x (grant_at a.t READ a.x)) e)
+    sym (read_grant a.t a.store.now s a.write a.x c.if-write.false ∙ ap (λ (x : Answer Grant). or_else x (grant_at a.t READ a.x)) e)
 
 pub returns : goal.returns
 returns c =
     let a = c.args in
-    let found = c.grant_for_reads-g.ensures ∙ ap (grant_for_reads a.store.now) c.grant_in-h.ensures in
+    let found = c.grant_for_reads.ensures ∙ ap (grant_for_reads a.store.now) c.grant_in-h.ensures in
     let e = by_case answer_of_grant found c.in_default.is in
     λ s.
     c.grant_in.ensures

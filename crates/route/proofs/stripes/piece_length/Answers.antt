@@ -7,7 +7,7 @@ use native.Mathlib.Omega.{arith}
 use Rattle.route.proofs.stripes.piece_length.Goals as goal
 
 pub returns-then-servers-le1 : goal.returns-then-servers-le1
-returns-then-servers-le1 c = piece_in_one c.args.unit c.args.servers c.args.last c.args.offset c.args.len _ c.requires.0 c.if-servers-le1.true c.smaller-held.ensures
+returns-then-servers-le1 c = piece_in_one c.args.unit c.args.servers c.args.last c.args.offset c.args.len _ c.requires.0 c.if-servers-le1.true c.min-held.ensures
 
 pub overflow_sub-rest : goal.overflow_sub-rest
 overflow_sub-rest c =
@@ -16,4 +16,4 @@ overflow_sub-rest c =
     omega arith
 
 pub returns : goal.returns
-returns c = piece_in_many c.args.unit c.args.servers c.args.last c.args.offset c.args.len _ _ _ c.requires.0 c.requires.2 c.if-servers-le1.false c.smaller-held.ensures c.unit_rest-rest.ensures c.smaller.ensures
+returns c = piece_in_many c.args.unit c.args.servers c.args.last c.args.offset c.args.len _ _ _ c.requires.0 c.requires.2 c.if-servers-le1.false c.min-held.ensures c.unit_rest-rest.ensures c.min.ensures

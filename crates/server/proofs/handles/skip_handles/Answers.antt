@@ -1,34 +1,22 @@
 -- `server::handles::skip_handles` meets its contract. The loop's invariant: what is left to skip ends where all of it does.
+use Rattle.std.proofs.Common.{◌≡◌, ◌+◌, ◌-◌, sym, ◌∙◌, arith}
+use Rattle.std.proofs.lemmas.Grind.{common_steps}
 use Rattle.server.specs.Servers.{handles_at}
 use Rattle.xdr.proofs.EndLaws.{first_refuses, none_end, others_end}
-use Rattle.xdr.proofs.Steps.{by_case, fault_up}
-use Rattle.xdr.specs.Answers.{parsed_of_part}
 use Rattle.xdr.specs.Items.{opaque_at}
-use mathlib.Core.Path.{refl, ◌∙◌}
-use native.Mathlib.Omega.{arith}
 use Rattle.server.proofs.handles.skip_handles.Goals as goal
 
-pub returns-in_default : goal.returns-in_default
+pub returns-in_err-e : goal.returns-in_err-e
 unfolding handles_at
-returns-in_default c =
-    let l = c.loop-left in
-    rw (
-      l.invariant,
-      first_refuses (opaque_at 1 128) l.left c.args.s.now l.d.at _ (omega arith)
-          (fault_up parsed_of_part c.read_opaque-r.ensures c.in_default.is
-          c.fault_of_part.ensures refl),
-    )
+returns-in_err-e c = grind (arith, common_steps, first_refuses)
 
-pub loop-left-preserved : goal.loop-left-preserved
+pub loop-preserved : goal.loop-preserved
 unfolding handles_at
-loop-left-preserved c =
-    let l = c.loop-left in
-    l.invariant
-    ∙ others_end (opaque_at 1 128) l.left c.args.s.now l.d.at _ _ (omega arith)
-    (by_case parsed_of_part c.read_opaque-r.ensures c.in-Value.is)
+loop-preserved c =
+    let l = c.loop in
+    let left : c.args.n - (l.counter + 1) ≡ c.args.n - l.counter - 1 = omega arith in
+    rw left (l.invariant ∙ others_end (opaque_at 1 128) (c.args.n - l.counter) c.args.s.now l.d.at _ _ (omega arith) (sym c.in_ok-e.ensures))
 
 pub returns : goal.returns
 unfolding handles_at
-returns c =
-    let l = c.loop-left in
-    rw (l.invariant, none_end (opaque_at 1 128) l.left c.args.s.now l.d.at (omega arith))
+returns c = grind (arith, common_steps, none_end)

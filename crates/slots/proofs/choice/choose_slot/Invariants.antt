@@ -1,10 +1,6 @@
-use Prim.Native.Nat.{◌-◌, ◌≤◌}
 use Rattle.slots.proofs.SearchLaws.{SoughtTo}
 use Rattle.slots.specs.Slots.{is_set}
 use Rattle.slots.proofs.choice.choose_slot.Given as goal
 
 abbrev pub invariant-loop-i : goal.invariant-loop-i
-invariant-loop-i l = (l.i ≤ 8) × SoughtTo l.body (is_set l.named) l.store l.i
-
-abbrev pub decreases-loop-i : goal.decreases-loop-i
-decreases-loop-i l = 8 - l.i
+invariant-loop-i l = SoughtTo l.body (is_set l.named) l.store l.i

@@ -10,9 +10,8 @@ pub loop-i-preserved : goal.loop-i-preserved
 loop-i-preserved c =
     let l = c.loop-i in
     let a = c.args in (
-      omega arith,
       search rules,
-      l.invariant.2
+      l.invariant.1
           ∙ (cleared_next (is_set a.was) (is_set a.is) l.i l.store (omega arith)
           ∙ ap (cleared_from (is_set a.was) (is_set a.is) _ _) (sym c.clear_if_unnamed.ensures)),
     )
@@ -20,4 +19,4 @@ loop-i-preserved c =
 pub returns : goal.returns
 returns c =
     let a = c.args in
-    sym (c.loop-i.invariant.2 ∙ cleared_all (is_set a.was) (is_set a.is) _ _ (omega arith))
+    sym (c.loop-i.invariant.1 ∙ cleared_all (is_set a.was) (is_set a.is) _ _ (omega arith))

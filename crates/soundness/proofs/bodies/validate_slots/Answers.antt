@@ -1,5 +1,5 @@
 -- `soundness::bodies::validate_slots` meets its contract. The loop's invariant: the slots passed are sound, so what is left decides, and the asked one was
--- read if it was among them. The measure is how many are left.
+-- read if it was among them.
 use Prim.Native.Nat.{ℕ, ◌+◌}
 use Rattle.layout.specs.Answers.{starts_in}
 use Rattle.layout.specs.Layouts.{layout_body}
@@ -16,12 +16,10 @@ use Rattle.soundness.proofs.bodies.validate_slots.Goals as goal
 use Rattle.soundness.proofs.bodies.validate_slots.Goals.{then-named-k+else-not-is_filled+then-i-asked, then-named-k+else-not-is_filled+else-i-asked, else-named-k+else-not-all_zero}
 
 pub loop-i-init : goal.loop-i-init
-loop-i-init c = (
-  omega arith,
-  λ t e.
-      let n = read_none t c.args.store.now c.args.asked.0 in
-      (refl, c.unsound-none.ensures.answer ∙ n, c.unsound-none.ensures.starts ∙ none_started _ n),
-)
+loop-i-init c =
+    λ t e.
+    let n = read_none t c.args.store.now c.args.asked.0 in
+    (refl, c.unsound-none.ensures.answer ∙ n, c.unsound-none.ensures.starts ∙ none_started _ n)
 
 pub returns-then-not-is_filled : goal.returns-then-not-is_filled
 returns-then-not-is_filled c =
@@ -33,7 +31,7 @@ returns-then-not-is_filled c =
       named_here t _ l.i e (omega arith) ∙ c.if-named-k.true,
       ← c.slot_bytes-slot.ensures,
     ) (sym q ∙ c.if-not-is_filled.true) in record {
-      sound = f ∙ sym ((l.invariant.1 t e).0 ∙ slot_fails t c.args.store.now 8 l.i (omega arith) s);
+      sound = f ∙ sym ((l.invariant t e).0 ∙ slot_fails t c.args.store.now 8 l.i (omega arith) s);
       reading = λ k. absurd (false≢true (sym f ∙ k));
     }
 
@@ -46,7 +44,7 @@ returns-then-not-all_zero c =
       named_here t _ l.i e (omega arith) ∙ c.if-named-k.false,
       ← c.slot_bytes-slot.ensures,
     ) (sym c.all_zero.ensures ∙ c.if-not-all_zero.true) in record {
-      sound = f ∙ sym ((l.invariant.1 t e).0 ∙ slot_fails t c.args.store.now 8 l.i (omega arith) s);
+      sound = f ∙ sym ((l.invariant t e).0 ∙ slot_fails t c.args.store.now 8 l.i (omega arith) s);
       reading = λ k. absurd (false≢true (sym f ∙ k));
     }
 
@@ -55,42 +53,40 @@ unfolding slot_sound
 loop-i-preserved c =
     let l = c.loop-i in
     let store = c.args.store.now in
-    let asked = c.args.asked in (
-      omega arith,
-      λ t e. let n = named_here t _ l.i e (omega arith) in elim c.if-named-k.branch [
-        | then-named-k+else-not-is_filled+then-i-asked w ↦
-            (let q = w.is_filled.ensures w.read_layout-l.result.starts (w.read_layout-l.ensures.0 ∙ ap layout_body w.slot_body.ensures) in let
-            s : slot_sound (is_named t l.i) (slot_at store l.i) ≡ true = rw (
-              n ∙ w.if-named-k.true,
-              ← c.slot_bytes-slot.ensures,
-            ) (sym q ∙ w.if-not-is_filled.false) in let r = ap layout_body
-            (w.slot_body.ensures ∙ ap body_in c.slot_bytes-slot.ensures)
-            ∙ (read_here t store l.i (n ∙ w.if-named-k.true)
-            ∙ ap (λ (v : ℕ). layout_named t store v (l.i + 1)) w.if-i-asked.true) in (
-              (l.invariant.1 t e).0 ∙ slot_passed t store 8 l.i (omega arith) s,
-              rw w.read-is (w.read_layout-l.ensures.0 ∙ r),
-              rw w.read-is (w.read_layout-l.ensures.1 ∙ ap starts_in r),
-            ))
-        | then-named-k+else-not-is_filled+else-i-asked w ↦ (let q = w.is_filled.ensures w.read_layout-l.result.starts (w.read_layout-l.ensures.0 ∙ ap layout_body w.slot_body.ensures)
-            in let s : slot_sound (is_named t l.i) (slot_at store l.i) ≡ true = rw (
-              n ∙ w.if-named-k.true,
-              ← c.slot_bytes-slot.ensures,
-            ) (sym q ∙ w.if-not-is_filled.false) in let r = read_elsewhere t store asked.0 l.i w.if-i-asked.false in (
-              (l.invariant.1 t e).0 ∙ slot_passed t store 8 l.i (omega arith) s,
-              rw w.read-is ((l.invariant.1 t e).1 ∙ r),
-              rw w.read-is ((l.invariant.1 t e).2 ∙ ap starts_in r),
-            ))
-        | else-named-k+else-not-all_zero w ↦ (let s : slot_sound (is_named t l.i) (slot_at store l.i) ≡ true = rw (
-          n ∙ w.if-named-k.false,
-          ← c.slot_bytes-slot.ensures,
-        ) (sym w.all_zero.ensures ∙ w.if-not-all_zero.false) in let r = read_unnamed t store asked.0 l.i
-            (n ∙ w.if-named-k.false) in (
-              (l.invariant.1 t e).0 ∙ slot_passed t store 8 l.i (omega arith) s,
-              rw w.read-is ((l.invariant.1 t e).1 ∙ r),
-              rw w.read-is ((l.invariant.1 t e).2 ∙ ap starts_in r),
-            ))
-      ],
-    )
+    let asked = c.args.asked in
+    λ t e. let n = named_here t _ l.i e (omega arith) in elim c.if-named-k.branch [
+      | then-named-k+else-not-is_filled+then-i-asked w ↦
+          (let q = w.is_filled.ensures w.read_layout-l.result.starts (w.read_layout-l.ensures.0 ∙ ap layout_body w.slot_body.ensures) in let
+          s : slot_sound (is_named t l.i) (slot_at store l.i) ≡ true = rw (
+            n ∙ w.if-named-k.true,
+            ← c.slot_bytes-slot.ensures,
+          ) (sym q ∙ w.if-not-is_filled.false) in let r = ap layout_body
+          (w.slot_body.ensures ∙ ap body_in c.slot_bytes-slot.ensures)
+          ∙ (read_here t store l.i (n ∙ w.if-named-k.true)
+          ∙ ap (λ (v : ℕ). layout_named t store v (l.i + 1)) w.if-i-asked.true) in (
+            (l.invariant t e).0 ∙ slot_passed t store 8 l.i (omega arith) s,
+            rw w.read-is (w.read_layout-l.ensures.0 ∙ r),
+            rw w.read-is (w.read_layout-l.ensures.1 ∙ ap starts_in r),
+          ))
+      | then-named-k+else-not-is_filled+else-i-asked w ↦ (let q = w.is_filled.ensures w.read_layout-l.result.starts (w.read_layout-l.ensures.0 ∙ ap layout_body w.slot_body.ensures)
+          in let s : slot_sound (is_named t l.i) (slot_at store l.i) ≡ true = rw (
+            n ∙ w.if-named-k.true,
+            ← c.slot_bytes-slot.ensures,
+          ) (sym q ∙ w.if-not-is_filled.false) in let r = read_elsewhere t store asked.0 l.i w.if-i-asked.false in (
+            (l.invariant t e).0 ∙ slot_passed t store 8 l.i (omega arith) s,
+            rw w.read-is ((l.invariant t e).1 ∙ r),
+            rw w.read-is ((l.invariant t e).2 ∙ ap starts_in r),
+          ))
+      | else-named-k+else-not-all_zero w ↦ (let s : slot_sound (is_named t l.i) (slot_at store l.i) ≡ true = rw (
+        n ∙ w.if-named-k.false,
+        ← c.slot_bytes-slot.ensures,
+      ) (sym w.all_zero.ensures ∙ w.if-not-all_zero.false) in let r = read_unnamed t store asked.0 l.i
+          (n ∙ w.if-named-k.false) in (
+            (l.invariant t e).0 ∙ slot_passed t store 8 l.i (omega arith) s,
+            rw w.read-is ((l.invariant t e).1 ∙ r),
+            rw w.read-is ((l.invariant t e).2 ∙ ap starts_in r),
+          ))
+    ]
 
 pub returns : goal.returns
 returns c =
@@ -100,6 +96,6 @@ returns c =
     λ t e.
     let r = ap (layout_named t a.store.now a.asked.0) z in
     record {
-      sound = sym ((l.invariant.1 t e).0 ∙ slots_none t a.store.now 8 l.i (omega arith));
-      reading = λ k. record { answer = (l.invariant.1 t e).1 ∙ r; starts = (l.invariant.1 t e).2 ∙ ap starts_in r; named = e };
+      sound = sym ((l.invariant t e).0 ∙ slots_none t a.store.now 8 l.i (omega arith));
+      reading = λ k. record { answer = (l.invariant t e).1 ∙ r; starts = (l.invariant t e).2 ∙ ap starts_in r; named = e };
     }

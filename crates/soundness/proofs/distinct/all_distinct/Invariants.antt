@@ -1,4 +1,4 @@
-use Prim.Native.Nat.{◌-◌, ◌≤◌}
+use Prim.Native.Nat.{◌-◌}
 use Rattle.lookup.specs.Lookup.{named_slots}
 use Rattle.model.specs.SlotsShown.{all_distinct, slots_from}
 use Rattle.segments.specs.Segments.{is_named}
@@ -8,7 +8,4 @@ use Rattle.soundness.proofs.distinct.all_distinct.Given as goal
 
 abbrev pub invariant-loop-i : goal.invariant-loop-i
 invariant-loop-i l =
-    (l.i ≤ 8) × ((t : Table) → l.named ≡ named_slots t → all_distinct (slots_from (is_named t) l.store 8 0) ≡ all_distinct (slots_from (is_named t) l.store (8 - l.i) l.i))
-
-abbrev pub decreases-loop-i : goal.decreases-loop-i
-decreases-loop-i l = 8 - l.i
+    (t : Table) → l.named ≡ named_slots t → all_distinct (slots_from (is_named t) l.store 8 0) ≡ all_distinct (slots_from (is_named t) l.store (8 - l.i) l.i)

@@ -1,5 +1,4 @@
--- `soundness::distinct::is_held_from` meets its contract. The loop's invariant: no slot passed holds the body, so what is left decides. The measure is
--- how many slots are left.
+-- `soundness::distinct::is_held_from` meets its contract. The loop's invariant: no slot passed holds the body, so what is left decides.
 use Rattle.lookup.proofs.NamedLaws.{named_here}
 use Rattle.soundness.proofs.ValidSlotLaws.{held_next, held_none}
 use mathlib.Core.Path.{sym, ◌∙◌}

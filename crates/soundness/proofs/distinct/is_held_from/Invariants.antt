@@ -10,6 +10,3 @@ use Rattle.soundness.proofs.distinct.is_held_from.Given as goal
 abbrev pub invariant-loop-j : goal.invariant-loop-j
 invariant-loop-j l =
     (t : Table) → l.named ≡ named_slots t → in_slots l.body (slots_from (is_named t) l.store (8 - l.initial.j) l.initial.j) ≡ in_slots l.body (slots_from (is_named t) l.store (8 - l.j) l.j)
-
-abbrev pub decreases-loop-j : goal.decreases-loop-j
-decreases-loop-j l = 8 - l.j

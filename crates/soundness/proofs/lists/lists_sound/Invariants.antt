@@ -1,4 +1,3 @@
-use Prim.Native.Nat.{◌-◌, ◌≤◌}
 use Rattle.soundness.specs.Sound.{segments_sound}
 use Rattle.segments.proofs.ModeLaws.{PassedTo}
 use Rattle.segments.specs.Segments.{Mode, segments_for}
@@ -10,7 +9,4 @@ abbrev pub test : Table → Mode → Bool
 test t m = segments_sound (segments_for t m)
 
 abbrev pub invariant-loop-i : goal.invariant-loop-i
-invariant-loop-i l = (l.i ≤ 2) × PassedTo (test l.t) true l.i
-
-abbrev pub decreases-loop-i : goal.decreases-loop-i
-decreases-loop-i l = 2 - l.i
+invariant-loop-i l = PassedTo (test l.t) true l.i

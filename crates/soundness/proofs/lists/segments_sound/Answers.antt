@@ -1,18 +1,15 @@
 -- `soundness::lists::segments_sound` meets its contract. The first loop's invariant: the segments passed are in order, so what is left decides. The
--- second one's: the flag says whether the entries passed are blank. The measures are how many are left.
-use Prim.Native.Nat.{◌+◌, min}
-use Rattle.base.proofs.ListLaws.{mapped_long}
-use Rattle.lookup.proofs.LookupLaws.{length_used, next_segment, no_segment}
-use Rattle.soundness.specs.Sound.{apart_from_next, is_in_order, segments_sound}
-use Rattle.segments.specs.Segments.{blank, list_of}
-use Rattle.soundness.proofs.SegmentLaws.{blank_none, blank_passed}
-use borrow.Author.Rules.{rules}
+-- second one's: the flag says whether the entries passed are blank.
+use Rattle.std.proofs.Common.{◌+◌, ◌-◌, length, drop, Bool, ◌&&◌, sym, ap, ◌∙◌, arith, length-drop}
 use borrow.Author.Tests.{le-leb, lt-leb}
-use lib.ListN.{length}
+use lib.Seq.{take_all}
 use mathlib.Core.Bool.{and-true}
-use mathlib.Core.Path.{◌≡◌, sym, ◌∙◌}
-use native.Mathlib.Omega.{arith}
+use Rattle.lookup.proofs.LookupLaws.{next_segment, no_segment}
+use Rattle.segments.specs.Segments.{blank}
+use Rattle.soundness.specs.Sound.{all_blank, apart_from_next, is_in_order, segments_sound}
+use Rattle.soundness.proofs.SegmentLaws.{blank_none, blank_passed}
 use Rattle.soundness.proofs.lists.segments_sound.Goals as goal
+use Rattle.soundness.proofs.lists.segments_sound.Goals.{then-next-all+else-not-are_apart, else-next-all}
 
 pub returns-then-g-gt-MOST_SEGMENTS : goal.returns-then-g-gt-MOST_SEGMENTS
 unfolding segments_sound
@@ -22,13 +19,12 @@ pub returns-then-not-is_fit : goal.returns-then-not-is_fit
 unfolding segments_sound is_in_order
 returns-then-not-is_fit c =
     let l = c.loop-k in
-    let g = c.args.g in
-    let h : length g.items ≡ 32 = search (rules, mapped_long) in
-    let e : length (list_of g) ≡ min g.count 32 = length_used g h in
+    let all = c.used-all.result.now in
     rw (
       le-leb _ _ c.if-g-gt-MOST_SEGMENTS.false,
-      l.invariant.1,
-      next_segment g l.k blank (omega arith),
+      sym c.used-all.ensures,
+      l.invariant,
+      next_segment all l.k blank (omega arith),
       sym c.is_fit.ensures ∙ c.if-not-is_fit.true,
     )
 
@@ -36,64 +32,49 @@ pub returns-then-not-are_apart : goal.returns-then-not-are_apart
 unfolding segments_sound is_in_order apart_from_next
 returns-then-not-are_apart c =
     let l = c.loop-k in
-    let g = c.args.g in
-    let h : length g.items ≡ 32 = search (rules, mapped_long) in
-    let e : length (list_of g) ≡ min g.count 32 = length_used g h in
+    let all = c.used-all.result.now in
     rw (
       le-leb _ _ c.if-g-gt-MOST_SEGMENTS.false,
-      l.invariant.1,
-      next_segment g l.k blank (omega arith),
+      sym c.used-all.ensures,
+      l.invariant,
+      next_segment all l.k blank (omega arith),
       sym c.is_fit.ensures ∙ c.if-not-is_fit.false,
-      next_segment g (l.k + 1) blank (omega arith),
+      next_segment all (l.k + 1) blank (omega arith),
       sym c.are_apart.ensures ∙ c.if-not-are_apart.true,
-    )
-
-pub loop-k-preserved-else-not-are_apart : goal.loop-k-preserved-else-not-are_apart
-unfolding is_in_order apart_from_next
-loop-k-preserved-else-not-are_apart c =
-    let l = c.loop-k in
-    let g = c.args.g in
-    let h : length g.items ≡ 32 = search (rules, mapped_long) in
-    let e : length (list_of g) ≡ min g.count 32 = length_used g h in (
-      omega arith,
-      rw (
-        l.invariant.1,
-        next_segment g l.k blank (omega arith),
-        sym c.is_fit.ensures ∙ c.if-not-is_fit.false,
-        next_segment g (l.k + 1) blank (omega arith),
-        sym c.are_apart.ensures ∙ c.if-not-are_apart.false,
-      ),
     )
 
 pub loop-k-preserved : goal.loop-k-preserved
 unfolding is_in_order apart_from_next
 loop-k-preserved c =
     let l = c.loop-k in
-    let g = c.args.g in
-    let h : length g.items ≡ 32 = search (rules, mapped_long) in
-    let e : length (list_of g) ≡ min g.count 32 = length_used g h in (
-      omega arith,
-      rw (
-        l.invariant.1,
-        next_segment g l.k blank (omega arith),
+    let all = c.used-all.result.now in
+    elim c.if-next-all.branch [
+      | then-next-all+else-not-are_apart w ↦ rw (
+        l.invariant,
+        next_segment all l.k blank (omega arith),
         sym c.is_fit.ensures ∙ c.if-not-is_fit.false,
-        no_segment g (l.k + 1) (omega arith),
-      ),
-    )
+        next_segment all (l.k + 1) blank (omega arith),
+        sym w.are_apart.ensures ∙ w.if-not-are_apart.false,
+      )
+      | else-next-all w ↦ rw (
+        l.invariant,
+        next_segment all l.k blank (omega arith),
+        sym c.is_fit.ensures ∙ c.if-not-is_fit.false,
+        no_segment all (l.k + 1) (omega arith),
+      )
+    ]
 
-pub loop-k-2-preserved : goal.loop-k-2-preserved
-loop-k-2-preserved c =
-    let m = c.loop-k-2 in
-    let g = c.args.g in
-    let h : length g.items ≡ 32 = search (rules, mapped_long) in
-    rw c.is_blank-blank.ensures (m.invariant ∙ blank_passed g.items m.k blank m.blank (omega arith))
+pub loop-s-preserved : goal.loop-s-preserved
+loop-s-preserved c =
+    let m = c.loop-s in
+    rw c.is_blank-blank.ensures (m.invariant ∙ blank_passed _ m.s-index blank m.blank (omega arith))
 
 pub returns : goal.returns
 unfolding segments_sound is_in_order
 returns c =
     let l = c.loop-k in
-    let m = c.loop-k-2 in
+    let m = c.loop-s in
     let g = c.args.g in
-    let h : length g.items ≡ 32 = search (rules, mapped_long) in
-    let e : length (list_of g) ≡ min g.count 32 = length_used g h in
-    rw (le-leb _ _ c.if-g-gt-MOST_SEGMENTS.false, l.invariant.1, no_segment g l.k (omega arith), m.invariant, blank_none g.items m.k (omega arith), and-true)
+    let z = m.invariant ∙ ap (λ (b : Bool). m.blank && b) (blank_none _ m.s-index (omega arith)) ∙ and-true m.blank in
+    rw (le-leb _ _ c.if-g-gt-MOST_SEGMENTS.false, sym c.used-all.ensures, l.invariant, no_segment c.used-all.result.now l.k (omega arith))
+    (sym (ap all_blank (sym (take_all (length g.items - g.count) (drop g.count g.items) (omega (arith, length-drop g.count g.items)))) ∙ z))

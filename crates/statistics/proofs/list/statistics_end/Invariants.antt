@@ -1,10 +1,7 @@
-use Rattle.statistics.specs.Statistics.{statistic_at}
-use Rattle.xdr.specs.Parsed.{many_at, end_of}
-use mathlib.Core.Path.{◌≡◌}
+use Rattle.std.proofs.Common.{◌≡◌, ◌-◌}
+use Rattle.xdr.specs.Parsed.{end_of, many_at}
+use Rattle.statistics.specs.Statistics.{statistic_at, statistics_at}
 use Rattle.statistics.proofs.list.statistics_end.Given as goal
 
-abbrev pub invariant-loop-left : goal.invariant-loop-left
-invariant-loop-left l = end_of (many_at statistic_at l.n l.s l.initial.d.at) ≡ end_of (many_at statistic_at l.left l.s l.d.at)
-
-abbrev pub decreases-loop-left : goal.decreases-loop-left
-decreases-loop-left l = l.left
+abbrev pub invariant-loop : goal.invariant-loop
+invariant-loop l = end_of (statistics_at l.s l.fn.c.at) ≡ end_of (many_at statistic_at (l.n - l.counter) l.s l.d.at)

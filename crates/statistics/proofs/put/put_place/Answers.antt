@@ -4,7 +4,7 @@ use Rattle.statistics.proofs.PutLaws.{lengths_in, put_then}
 use Rattle.statistics.proofs.StatisticLaws.{opaque_most}
 use lib.ListN.{length}
 use lib.Seq.{length-take-le}
-use mathlib.Core.Path.{refl, sym}
+use mathlib.Core.Path.{refl}
 use native.Mathlib.Omega.{arith}
 use Rattle.statistics.proofs.put.put_place.Goals as goal
 
@@ -12,18 +12,6 @@ pub put_netaddr-p-requires : goal.put_netaddr-p-requires
 put_netaddr-p-requires c =
     let i = lengths_in c.args.u c.requires.0 in
     (i.netid, i.text, omega (arith, c.requires.1))
-
-pub slice_bounds-filehandle-end : goal.slice_bounds-filehandle-end
-slice_bounds-filehandle-end c =
-    let u = c.args.u in
-    let e = c.well_formed.1.1.0.1.1.1.0.1.1.1.0.1.0.1 in
-    omega (arith, e, (lengths_in u c.requires.0).filehandle)
-
-pub slice_bounds-put_opaque-end : goal.slice_bounds-put_opaque-end
-slice_bounds-put_opaque-end c =
-    let u = c.args.u in
-    let e = c.well_formed.1.1.0.1.1.1.0.1.1.1.0.1.0.1 in
-    sym (length-take-le u.filehandle.length u.filehandle.bytes (omega (arith, e, (lengths_in u c.requires.0).filehandle)))
 
 pub put_opaque-requires : goal.put_opaque-requires
 put_opaque-requires c =

@@ -1,12 +1,15 @@
-use Prim.Native.Nat.{◌+◌, ◌-◌, ◌≤◌}
-use Rattle.table.proofs.StepLaws.{steps}
+use Rattle.std.proofs.Common.{[], ◌++◌, take}
 use Rattle.table.specs.Builders.{Built}
-use Rattle.table.specs.Edits.{push_all}
-use mathlib.Core.List.{[]}
+use Rattle.table.specs.Edits.{after, before, inside, middle, parts, push_all}
+use Rattle.table.specs.declared.change.Change.TheVariants.{Recall}
 use Rattle.table.proofs.builder.build.Given as goal
 
-abbrev pub invariant-loop-i : goal.invariant-loop-i
-invariant-loop-i l = (l.i ≤ l.n + l.m + l.n) × (Built l.r (push_all [] (steps l.c l.first l.last l.items l.n l.m l.i)))
+abbrev pub invariant-loop-s : goal.invariant-loop-s
+invariant-loop-s l = Built l.r (push_all [] (parts (before l.first) (take l.s-index l.segments)))
 
-abbrev pub decreases-loop-i : goal.decreases-loop-i
-decreases-loop-i l = l.n + l.m + l.n - l.i
+abbrev pub invariant-loop-s-2 : goal.invariant-loop-s-2
+invariant-loop-s-2 l = Built l.r (push_all [] (parts (before l.first) l.segments ++ parts (inside Recall l.first l.last) (take l.s-index l.segments)))
+
+abbrev pub invariant-loop-s-3 : goal.invariant-loop-s-3
+invariant-loop-s-3 l =
+    Built l.r (push_all [] ((parts (before l.fn.first) l.segments ++ middle l.fn.c l.fn.first l.fn.last l.segments) ++ parts (after l.last) (take l.s-index l.segments)))

@@ -1,23 +1,16 @@
 -- `table::edit::edit_list` meets its contract: the list is not acted on, has no room, or is what the builder holds.
-use Rattle.base.proofs.ListLaws.{mapped_long, take_capped}
 use Rattle.table.proofs.BuilderLaws.{edit_fits, edit_over}
-use borrow.Author.Rules.{rules}
-use lib.ListN.{length}
-use mathlib.Core.Path.{◌≡◌, sym, ◌∙◌}
+use mathlib.Core.Path.{sym, ◌∙◌}
 use Rattle.table.proofs.edit.edit_list.Goals as goal
 
 pub returns-then-r : goal.returns-then-r
 returns-then-r c =
     let a = c.args in
-    let k : length a.g.items ≡ 32 = search (rules, mapped_long) in
     rw (sym c.acts_on.ensures ∙ c.if-not-acts_on.false)
-    (edit_over a.c a.s.first a.s.last a.g _ (take_capped a.g.items 32 a.g.count _ k c.used_entries-n.ensures) c.build-r.ensures c.if-r.true)
+    (edit_over a.c a.s.first a.s.last a.g.now _ c.used.ensures c.build-r.ensures c.if-r.true)
 
 pub returns : goal.returns
 returns c =
     let a = c.args in
-    let k : length a.g.items ≡ 32 = search (rules, mapped_long) in
     rw (sym c.acts_on.ensures ∙ c.if-not-acts_on.false)
-    (edit_fits a.c a.s.first a.s.last a.g _
-    (take_capped a.g.items 32 a.g.count _ k c.used_entries-n.ensures)
-    c.build-r.ensures c.if-r.false)
+    (edit_fits a.c a.s.first a.s.last a.g.now _ c.used.ensures c.build-r.ensures c.if-r.false)

@@ -1,8 +1,0 @@
--- `statistics::record::text_of` meets its contract: the bytes of the address, and zeros after them.
-use Rattle.statistics.proofs.PlaceLaws.{part_filled}
-use Rattle.statistics.proofs.record.text_of.Goals as goal
-
-pub returns : goal.returns
-returns c =
-    let a = c.args in
-    rw (c.put_bytes.ensures, part_filled 64 a.s.now a.part c.requires)
