@@ -1,14 +1,14 @@
 /*
  * How much stack each function of the header takes, its arguments and its result counted: it is called on a thread
  * whose stack was painted, and the lowest byte that changed is looked for. Ends with 'N checks', or says which call
- * takes more than BASILOTHYN_STACK.
+ * takes more than BASILOTHYN_STACK, the dynamic linker's part in a first call of memmove counted.
  */
 #include "calls.h"
 
 #include <pthread.h>
 #include <stdlib.h>
 
-enum { PAINTED = 1 << 20, PAINT = 165 };
+enum { PAINTED = 1 << 20, PAINT = 165, LINKER = 3250 };
 
 /* What the calls take and give stands outside of the stack. */
 static struct file f, in_both;
@@ -150,7 +150,7 @@ int main(void)
 
         printf("stack %s %zu\n", calls[i].name, bytes);
         check(calls[i].refusal == NULL || *calls[i].refusal == 0, calls[i].name, __FILE__, __LINE__);
-        check(bytes <= BASILOTHYN_STACK, calls[i].name, __FILE__, __LINE__);
+        check(bytes + LINKER <= BASILOTHYN_STACK, calls[i].name, __FILE__, __LINE__);
     }
     CHECK(taken(0) < 256 && sizeof f == 34320);
     return ended();

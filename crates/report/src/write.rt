@@ -8,7 +8,8 @@ use crate::check::{check_reports, total};
 use crate::put::put_reports;
 use crate::{Outgoing, ReportHead};
 use base::{
-    ERROR_SIZE, Fault, MOST_REPORTS, MOST_STATISTICS, REPORT_ENTRIES, REPORT_HEAD_SIZE, Refusal,
+    ERROR_SIZE, Fault, LONGEST_STATISTICS, MOST_REPORTS, MOST_STATISTICS, REPORT_ENTRIES,
+    REPORT_HEAD_SIZE, Refusal,
 };
 
 // The body with the bytes of the tail after the reports; `checked` is whether the tail may be written.
@@ -92,17 +93,10 @@ pub fn write_return(
     }
     let count = outgoing.count;
     let heads = outgoing.heads;
-    let part = statistics::encode_statistics(outgoing.statistic_count, outgoing.statistics);
-    match part.answer {
-        Ok(n) => write_body(
-            count,
-            heads,
-            list_length,
-            errors,
-            Ok(()),
-            &part.bytes[..n],
-            out,
-        ),
+    // Lent, since bytes that are answered would be copied, twice, on 7,000 bytes of stack.
+    let mut tail = [0u8; LONGEST_STATISTICS];
+    match statistics::encode_into(&mut tail, outgoing.statistic_count, &outgoing.statistics) {
+        Ok(n) => write_body(count, heads, list_length, errors, Ok(()), &tail[..n], out),
         Err(e) => write_body(count, heads, list_length, errors, Err(e), b"", out),
     }
 }

@@ -40,14 +40,28 @@ fn put_statistics(
     Ok(p)
 }
 
+// The same into lent bytes, whatever they were: those past the length are 0, and each is after a refusal.
+pub fn encode_into(
+    bytes: &mut [u8; LONGEST_STATISTICS],
+    count: u32,
+    records: &[Statistic; STATISTIC_ENTRIES],
+) -> Result<usize, Fault>
+    ensures { (answer_of result ≡ length_of (encoded count records.now))
+        × (bytes.new ≡ padded longest_statistics 0 (members_in (encoded count records.now))) }
+{
+    *bytes = [0u8; LONGEST_STATISTICS];
+    let answer = put_statistics(bytes, count, records);
+    if answer.is_err() {
+        *bytes = [0u8; LONGEST_STATISTICS];
+    }
+    answer
+}
+
 pub fn encode_statistics(count: u32, records: [Statistic; STATISTIC_ENTRIES]) -> EncodedStatistics
     ensures { (answer_of result.answer ≡ length_of (encoded count records))
         × (result.bytes ≡ padded longest_statistics 0 (members_in (encoded count records))) }
 {
     let mut bytes = [0u8; LONGEST_STATISTICS];
-    let answer = put_statistics(&mut bytes, count, &records);
-    if answer.is_err() {
-        bytes = [0u8; LONGEST_STATISTICS];
-    }
+    let answer = encode_into(&mut bytes, count, &records);
     EncodedStatistics { answer, bytes }
 }

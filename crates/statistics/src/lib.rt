@@ -13,7 +13,7 @@ mod times;
 mod updates;
 
 use base::{ADDRESS_SIZE, DEVICE_ID_SIZE, FILEHANDLE_SIZE, NETID_SIZE, STATEID_SIZE};
-pub use encode::{EncodedStatistics, encode_statistics};
+pub use encode::{EncodedStatistics, encode_into, encode_statistics};
 pub use list::{NO_STATISTIC, StatisticList, read_list, statistics_end};
 
 // `nfstime4`. Seconds are signed on the wire: a number of 2^63 or more is negative.

@@ -8,6 +8,7 @@ use Rattle.report.specs.Writing.{entries_at}
 use Rattle.xdr.proofs.Steps.{by_case}
 use borrow.Author.Rules.{rules}
 use lib.ListN.{length}
+use lib.Seq.{length-take-le}
 use mathlib.Core.List.{[]}
 use mathlib.Core.Path.{◌≡◌, sym}
 use native.Mathlib.Omega.{arith}
@@ -22,7 +23,7 @@ pub returns-in-Err : goal.returns-in-Err
 returns-in-Err c =
     let a = c.args in
     let es = entries_at a.list_length a.errors.now 0 in
-    let e = length_refused _ _ (sym (by_case answer_of c.encode_statistics-part.ensures.0 c.in-Err.is)) in
+    let e = length_refused _ _ (sym (by_case answer_of c.encode_into.ensures.0 c.in-Err.is)) in
     rw (return_of_refused a.outgoing es (length a.out.now) c.if-outgoing-gt-MOST_STATISTICS.false _ [] e)
     c.write_body-in-Err.ensures
 
@@ -30,15 +31,22 @@ pub returns-in-Ok : goal.returns-in-Ok
 returns-in-Ok c =
     let a = c.args in
     let es = entries_at a.list_length a.errors.now 0 in
-    let part = c.encode_statistics-part in
-    let m : length part.result.bytes ≡ 3492 = search rules in
-    let x = filled _ _ part.result.bytes 3492 (sym (by_case answer_of part.ensures.0 c.in-Ok.is)) part.ensures.1 m in
+    let part = c.encode_into in
+    let m : length part.new.bytes ≡ 3492 = search rules in
+    let x = filled _ _ _ 3492 (sym (by_case answer_of part.ensures.0 c.in-Ok.is)) part.ensures.1 m in
     rw (return_of_encoded a.outgoing es (length a.out.now) c.if-outgoing-gt-MOST_STATISTICS.false x.content x.were, ← x.taken)
     c.write_body.ensures
 
-pub shared_ref_as_front-write_body : goal.shared_ref_as_front-write_body
-shared_ref_as_front-write_body c =
-    let part = c.encode_statistics-part in
-    let m : length part.result.bytes ≡ 3492 = search rules in
-    let x = filled _ _ part.result.bytes 3492 (sym (by_case answer_of part.ensures.0 c.in-Ok.is)) part.ensures.1 m in
+pub slice_bounds-write_body-end : goal.slice_bounds-write_body-end
+slice_bounds-write_body-end c =
+    let part = c.encode_into in
+    let m : length part.new.bytes ≡ 3492 = search rules in
+    let x = filled _ _ _ 3492 (sym (by_case answer_of part.ensures.0 c.in-Ok.is)) part.ensures.1 m in
+    sym (length-take-le _ part.new.bytes (omega (arith, x.few, m)))
+
+pub slice_bounds-tail-end : goal.slice_bounds-tail-end
+slice_bounds-tail-end c =
+    let part = c.encode_into in
+    let m : length part.new.bytes ≡ 3492 = search rules in
+    let x = filled _ _ _ 3492 (sym (by_case answer_of part.ensures.0 c.in-Ok.is)) part.ensures.1 m in
     omega (arith, x.few, m)

@@ -1,7 +1,7 @@
--- `statistics::encode::encode_statistics` meets its contract: after a refusal each byte is 0.
+-- `statistics::encode::encode_into` meets its contract: after a refusal each byte is 0.
 use Rattle.std.proofs.Common.{sym, ◌∙◌}
 use Rattle.statistics.proofs.EncodeLaws.{blank_after}
-use Rattle.statistics.proofs.encode.encode_statistics.Goals as goal
+use Rattle.statistics.proofs.encode.encode_into.Goals as goal
 
 pub returns-then-is_err : goal.returns-then-is_err
 returns-then-is_err c =
