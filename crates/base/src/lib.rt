@@ -21,7 +21,7 @@ pub use limits::{
     VERSION_ENTRIES,
 };
 pub use range::{LARGEST_SUM, LAST_BYTE, TO_THE_END, range_last, request_last};
-pub use refusal::{Fault, Refusal};
+pub use refusal::{Fault, Refusal, fault_of};
 
 // A mirror's number among the mirrors of a layout.
 #[derive(Clone, Copy)]

@@ -1,6 +1,8 @@
 // What is refused, with the numbers of the scope's table: what a reader finds wrong, and what a call answers.
 ghost use Rattle.std.specs.Prelude.{◌≡◌};
+ghost use Rattle.base.specs.Answer.{refusal_in};
 ghost use Rattle.base.specs.Refusals.{fault_number, number_of};
+ghost use Rattle.base.specs.Results.{answer_of};
 ghost use Rattle.base.specs.declared.refusal.Refusal.TheVariants.{Fault};
 
 // What a reader of bytes and numbers finds wrong with them.
@@ -90,5 +92,15 @@ impl From<Refusal> for u32 {
             Refusal::NothingHeld => 25,
             Refusal::OutputTooShort => 26,
         }
+    }
+}
+
+// The fault of an answer. The papers have none for an answer with a value: it is the first of the table.
+pub fn fault_of<T: Copy>(r: Result<T, Fault>) -> Fault
+    ensures { fault_number result ≡ refusal_in (answer_of r) }
+{
+    match r {
+        Ok(_) => Fault::BytesRunOut,
+        Err(e) => e,
     }
 }

@@ -8,7 +8,7 @@ use lib.ListN.{length, set, length-map, length-take, length-drop}
 use lib.Seq.{append_snoc}
 use Rattle.base.specs.Answer.{Answer, accepted, refused, given, pick}
 use Rattle.base.specs.Lists.{length_of, members_in}
-use Rattle.base.proofs.AnswerLaws.{given_refused}
+use Rattle.base.proofs.AnswerLaws.{given_inv, given_refused, same_answer}
 use Rattle.base.proofs.ListLaws.{padded_next}
 use Rattle.octets.specs.Numbers.{bytes_from}
 use Rattle.octets.proofs.NumberLaws.{length_bytes}
@@ -184,6 +184,11 @@ statistics_of_refused s n e = rw e
 pub statistics_of : (s : List ℕ) (r : LayoutReturn) → return_body s ≡ accepted r → statistics_body s ≡ accepted r.statistics
 unfolding statistics_body given
 statistics_of s r e = rw e
+
+-- both halves where one is accepted
+pub return_of_reports : (s : List ℕ) (rs : List Report) → report_body s ≡ accepted rs → (r : LayoutReturn) × (return_body s ≡ accepted r) × (r.reports ≡ rs)
+unfolding report_body
+return_of_reports s rs e = let a = given_inv _ _ _ e in (a.value, a.first, same_answer a.rest)
 
 -- ---- an accepted report has a stateid of 16 bytes
 

@@ -5,3 +5,4 @@ pub mod ManyLaws
 pub mod EndLaws
 pub mod ListedLaws
 pub mod ItemsAtLaws
+pub mod FaultLaws
