@@ -40,12 +40,12 @@ fn add_capped(value: u64, by: u64) -> u64 {
 
 fn print_mark(out: &mut impl Write, layer: Layer, c: &Column, x: u64) -> io::Result<()> {
     match layer {
-        Layer::Offsets(y) => print_label(out, add_capped(x, 10), y, "-40", c.offset),
+        Layer::Offsets(y) => print_label(out, add_capped(x, 10), y, b"-40", c.offset),
         Layer::Lengths(y) if c.mirrors != 0 => print_label(
             out,
             add_capped(x, 10),
             y,
-            "40",
+            b"40",
             c.length,
         ),
         Layer::Lines(from, to) => print_line(out, x, from, to),
@@ -210,9 +210,9 @@ fn print_columns(
     let to = add_capped(lower, 4);
     print_layer(out, Layer::Lines(top, to), columns)?;
     print_line(out, right, top, to)?;
-    print_edge(out, "offset", LEFT - 12, top)?;
+    print_edge(out, b"offset", LEFT - 12, top)?;
     print_layer(out, Layer::Offsets(top), columns)?;
-    print_edge(out, "bytes", LEFT - 12, add_capped(lower, 20))?;
+    print_edge(out, b"bytes", LEFT - 12, add_capped(lower, 20))?;
     print_layer(out, Layer::Lengths(add_capped(lower, 20)), columns)?;
     Ok(())
 }

@@ -27,11 +27,13 @@ pub fn print_style(out: &mut impl Write) -> io::Result<()> {
 }
 
 // A slanting label from a point on.
-pub fn print_label(out: &mut impl Write, x: u64, y: u64, turned: &str, v: u64) -> io::Result<()> {
-    writeln!(
+pub fn print_label(out: &mut impl Write, x: u64, y: u64, turned: &[u8], v: u64) -> io::Result<()> {
+    write!(
         out,
-        "<text class=\"mono\" transform=\"translate({x},{y}) rotate({turned})\">{v}</text>"
-    )
+        "<text class=\"mono\" transform=\"translate({x},{y}) rotate("
+    )?;
+    out.write_all(turned)?;
+    writeln!(out, ")\">{v}</text>")
 }
 
 // A line down the chart.
@@ -87,9 +89,11 @@ pub fn print_entry(
 }
 
 // The name of what is along an edge; it ends at x.
-pub fn print_edge(out: &mut impl Write, name: &str, x: u64, y: u64) -> io::Result<()> {
-    writeln!(
+pub fn print_edge(out: &mut impl Write, name: &[u8], x: u64, y: u64) -> io::Result<()> {
+    write!(
         out,
-        "<text class=\"mono\" text-anchor=\"end\" x=\"{x}\" y=\"{y}\">{name}</text>"
-    )
+        "<text class=\"mono\" text-anchor=\"end\" x=\"{x}\" y=\"{y}\">"
+    )?;
+    out.write_all(name)?;
+    writeln!(out, "</text>")
 }
